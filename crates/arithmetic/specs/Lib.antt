@@ -1,0 +1,4 @@
+pub mod Fold
+pub mod Growth
+pub mod Scalar
+pub mod Steps

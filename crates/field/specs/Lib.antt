@@ -1,0 +1,4 @@
+pub mod Text
+pub mod Fields
+pub mod Metres
+pub mod Examples

@@ -1,0 +1,12 @@
+-- modules that belong to no one function
+pub mod Picks
+pub mod Walks
+pub mod Scalars
+pub mod Leads
+pub mod Runs
+pub mod Sound
+pub mod Complete
+pub mod Shapes
+pub mod Texts
+pub mod Encodes
+pub mod Rfc3629

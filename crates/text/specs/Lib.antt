@@ -1,0 +1,7 @@
+pub mod Choice
+pub mod Refusal
+pub mod Utf8
+pub mod Reader
+pub mod Rfc3629
+pub mod Steps
+pub mod Advance
