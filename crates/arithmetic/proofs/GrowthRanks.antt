@@ -1,7 +1,7 @@
 -- Ranks: how many of the first n places come before a place. With a remainder and its place packed into one number, the larger
 -- first, no two places are alike, so the ranks below s are held by s places. And where all places of rank below m are marked, the
 -- first of the largest unmarked keys has rank m: the marked places all come before it, the others do not. Assumes nothing.
-use mathlib.Core.Path.{_≡_, sym, _∙_, ap, ap₂}
+use mathlib.Core.Path.{_≡_, sym, _∙_, ap}
 use mathlib.Core.Bool.{cond}
 use Prim.Native.Nat.{ℕ, zero, suc, _+_, _*_, _-_, _%_, _≤_, _<_, min}
 use native.Mathlib.Nat.{add-zero, le-refl}
@@ -9,7 +9,7 @@ use native.Mathlib.Decide.{decLt, decLe, ℕ-discrete}
 use native.Mathlib.Omega.{arith}
 use borrow.Author.Tests.{lt-ltb, le-ltb, eq-eqb, ne-eqb}
 use lib.Dec.{ltb}
-use Rattle.arithmetic.specs.Growth.{sumTo, ahead, rank}
+use Rattle.arithmetic.specs.Growth.{sumTo, comesBefore, rank}
 use Rattle.arithmetic.proofs.Sums.{equal-summands-equal-sums, sum-of-equals, bounded-summands-bounded-sum, smaller-summands-smaller-sum, one-smaller-summand-smaller-sum}
 
 -- 1 where a < b, otherwise 0.
@@ -103,13 +103,13 @@ ranks-below-are-as-many κ (suc n) d s =
 abbrev packed : ℕ → ℕ → ℕ
 packed a i = a * 128 + (127 - i)
 
-ahead-is-larger-packed : (a i b j : ℕ) → i < 128 → j < 128 → Dec (a < b) → Dec (a ≡ b) → ahead a i b j ≡ bit (packed a i) (packed b j)
-unfolding ahead
-ahead-is-larger-packed a i b j p q (yes h) e =
+comes-before-is-larger-packed : (a i b j : ℕ) → i < 128 → j < 128 → Dec (a < b) → Dec (a ≡ b) → comesBefore a i b j ≡ bit (packed a i) (packed b j)
+unfolding comesBefore
+comes-before-is-larger-packed a i b j p q (yes h) e =
     simp (lt-ltb a b h) (sym (bit-yes (packed a i) (packed b j) (omega arith)))
-ahead-is-larger-packed a i b j p q (no h) (yes e) =
+comes-before-is-larger-packed a i b j p q (no h) (yes e) =
     simp (le-ltb a b (omega arith), eq-eqb a b e) (same-test-same-bit j i (packed a i) (packed b j) (λ l. omega arith) (λ l. omega arith) (decLt j i))
-ahead-is-larger-packed a i b j p q (no h) (no e) =
+comes-before-is-larger-packed a i b j p q (no h) (no e) =
     simp (le-ltb a b (omega arith), ne-eqb a b e) (sym (bit-no (packed a i) (packed b j) (omega arith)))
 
 packed-place : (a i : ℕ) → i < 128 → packed a i % 128 ≡ 127 - i
@@ -123,7 +123,7 @@ module _ (f : ℕ → ℕ) (n : ℕ) (fits : n ≤ 128) where
   rank-counts-larger : (k : ℕ) → k < n → rank f n k ≡ larger κ n k
   unfolding rank κ
   rank-counts-larger k h =
-      equal-summands-equal-sums _ _ n (λ j m. ahead-is-larger-packed _ _ _ _ (omega arith) (omega arith) (decLt _ _) (ℕ-discrete _ _))
+      equal-summands-equal-sums _ _ n (λ j m. comes-before-is-larger-packed _ _ _ _ (omega arith) (omega arith) (decLt _ _) (ℕ-discrete _ _))
 
   packed-apart : (i j : ℕ) → i < n → j < n → κ i ≡ κ j → i ≡ j
   unfolding κ

@@ -1,13 +1,14 @@
--- Signed numbers read as differences of two natural numbers, `above-zero z - below-zero z`, so that `omega` proves facts about them. Assumes nothing.
-use mathlib.Core.Path.{_≡_, refl, sym, _∙_, ap}
+-- Signed numbers read as two natural numbers, one of them 0: how far they lie above zero and how far below. `omega` knows natural
+-- numbers alone, and each law here tells it what an operation, a comparison or a bound comes to. Assumes nothing.
+use mathlib.Core.Path.{_≡_, refl, ap}
 use mathlib.Core.Bool.{Bool, true, false, not, cond}
 use Prim.Native.Nat.{ℕ, zero, suc, _+_, _-_, _*_, _^_, _≤_, _<_, min}
 use native.Mathlib.Omega.{arith}
-use lib.Dec.{T, ltb, leb, ltb→lt, nltb→le}
+use lib.Dec.{T, ltb, ltb→lt, nltb→le}
 use lib.IntN.{ℤ, pos, negsuc, negℤ, natAbs, subℕ, _+ℤ_, _-ℤ_, _*ℤ_}
 use lib.Signed.{ltZ, leZ, mag, nonNeg}
-use mir.Syntax.{Width, w64}
-use mir.Val.{SFits, toZ, ofZ, bits}
+use mir.Syntax.{w32, w64}
+use mir.Val.{SFits, toZ, ofZ}
 use mir.Facts.{toZ-ofZ}
 use Rattle.arithmetic.specs.Scalar.{stop}
 use borrow.Author.Tests.{ltb-true, ltb-false, leb-true, leb-false}
@@ -24,7 +25,7 @@ pub above-or-below-is-zero : (z : ℤ) → min (above-zero z) (below-zero z) ≡
 above-or-below-is-zero (pos n) = omega arith
 above-or-below-is-zero (negsuc n) = omega arith
 
--- a number is known by its reading
+-- A number is known by its reading.
 pub equal-readings-are-equal : (a b : ℤ) → above-zero a + below-zero b ≡ above-zero b + below-zero a → a ≡ b
 equal-readings-are-equal (pos a) (pos b) h = ap pos (omega arith)
 equal-readings-are-equal (pos a) (negsuc b) h = absurd (omega arith)
@@ -80,6 +81,11 @@ pub reading-fits : (z : ℤ) → (above-zero z < 2 ^ 63) × (below-zero z ≤ 2 
 reading-fits (pos n) h = omega arith
 reading-fits (negsuc n) h = omega arith
 
+pub fitting-32-reads : (z : ℤ) → SFits w32 z → (above-zero z < 2 ^ 31) × (below-zero z ≤ 2 ^ 31)
+fitting-32-reads (pos n) f = omega arith
+fitting-32-reads (negsuc n) f = omega arith
+
+-- The three cases of stopping.
 pub stop-keeps-what-fits : (z : ℤ) → SFits w64 z → stop z ≡ z
 unfolding stop
 stop-keeps-what-fits (pos n) f = ap pos (omega arith)
@@ -103,7 +109,7 @@ pub product-below : (z : ℤ) (n : ℕ) → below-zero (z *ℤ pos n) ≡ below-
 product-below (pos a) n = omega arith
 product-below (negsuc a) n = negated-below (pos (suc a * n))
 
--- what a machine reads bits-read-back of a number that fits: of a parameter `fits .x`, of a call's result `.ok`
+-- The bits of a number that fits read back as the number; of a call's result the bound is `.ok`.
 pub bits-read-back : (z : ℤ) → mag z < 2 ^ 63 → toZ w64 (ofZ w64 z) ≡ z
 bits-read-back z h = toZ-ofZ {w = w64} (record { sfits = h })
 
@@ -119,7 +125,7 @@ not-at-most-reads (pos a) (negsuc b) h = omega arith
 not-at-most-reads (negsuc a) (pos b) h = let z : _≡_ {A = ℕ} 0 1 = cc in omega arith
 not-at-most-reads (negsuc a) (negsuc b) h = omega (arith, leb-false b a h)
 
--- a cast to an unsigned type, and the bits
+-- What a cast to an unsigned type asks.
 pub none-below-is-nonNeg : (z : ℤ) → below-zero z ≡ 0 → T (nonNeg z)
 none-below-is-nonNeg (pos n) h = tt
 none-below-is-nonNeg (negsuc n) h = absurd (omega arith)
@@ -127,7 +133,3 @@ none-below-is-nonNeg (negsuc n) h = absurd (omega arith)
 pub size-reads : (z : ℤ) → natAbs z ≡ above-zero z + below-zero z
 size-reads (pos n) = omega arith
 size-reads (negsuc n) = omega arith
-
-pub bits-are-read : (w : Width) (z : ℤ) → ofZ w z ≡ cond (nonNeg z) (above-zero z) (2 ^ bits w - below-zero z)
-bits-are-read w (pos n) = refl
-bits-are-read w (negsuc n) = refl

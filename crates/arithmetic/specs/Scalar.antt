@@ -1,4 +1,5 @@
--- Document 01, "Scalar", with "from_int", the u64 counters that stay at 2^64 - 1 and the bits of a pointer's coordinate.
+-- Document 01, "Scalar", and its sentence on u64 counters. `maxOf` is the source's `max`; `unsignedOf` is Rust's `cast_unsigned`, by
+-- which a pointer enters the check sum.
 use Prim.Native.Nat.{ℕ, suc, _+_, _-_, _/_, _^_, min}
 use mathlib.Core.Bool.{cond}
 use lib.IntN.{ℤ, pos, negsuc, _+ℤ_, _-ℤ_, _*ℤ_}

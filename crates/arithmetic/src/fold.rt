@@ -3,6 +3,7 @@ ghost use mathlib.Core.Path.{_≡_};
 ghost use mathlib.Core.List.{[], _∷_};
 ghost use Rattle.arithmetic.specs.Fold.{fnvByte, lowBytes, emptyHash, absorbed};
 
+// The state of a check sum.
 pub struct StateHash {
     pub state: u64,
 }
@@ -72,13 +73,16 @@ impl StateHash {
     }
 }
 
-// Xor, then times the prime 2^40 + 435 modulo 2^64, in two halves of 32 bits: no product passes 64 bits.
+// 2^32: half of the 64 bits.
+const HALF: u64 = 4294967296;
+
+// Xor, then times the prime 2^40 + 435 modulo 2^64, in halves of 32 bits, so that no product passes 64 bits.
 fn fold_byte(h: u64, b: u8) -> u64
     ensures { λ r. ⌜ r ≡ fnvByte h b ⌝ }
 {
     let x = h ^ b as u64;
-    let high = x / 4294967296;
-    let low = x % 4294967296;
+    let high = x / HALF;
+    let low = x % HALF;
     let p = low * 435;
-    (high * 435 + low * 256 + p / 4294967296) % 4294967296 * 4294967296 + p % 4294967296
+    (high * 435 + low * 256 + p / HALF) % HALF * HALF + p % HALF
 }

@@ -2,17 +2,22 @@
 ghost use mathlib.Core.Path.{_≡_};
 ghost use Rattle.arithmetic.specs.Scalar.{addSat, subSat, gapTimes, halfOf, fromInt, maxOf, incremented, unsignedOf};
 
+// The two ends of an i64.
+const LEAST: i64 = -9223372036854775808;
+
+const GREATEST: i64 = 9223372036854775807;
+
 // The sum, stopped at both ends. Each test moves its end by b, so that nothing overflows on the way.
 pub fn saturating_add(a: i64, b: i64) -> i64
     ensures { λ r. ⌜ r ≡ addSat a b ⌝ }
 {
     if 0 < b {
-        if 9223372036854775807 - b < a {
-            return 9223372036854775807;
+        if GREATEST - b < a {
+            return GREATEST;
         }
     } else {
-        if a < -9223372036854775808 - b {
-            return -9223372036854775808;
+        if a < LEAST - b {
+            return LEAST;
         }
     }
     a + b
@@ -23,17 +28,9 @@ pub fn saturating_sub(a: i64, b: i64) -> i64
     ensures { λ r. ⌜ r ≡ subSat a b ⌝ }
 {
     if 0 < b {
-        if a < -9223372036854775808 + b {
-            -9223372036854775808
-        } else {
-            a - b
-        }
+        if a < LEAST + b { LEAST } else { a - b }
     } else {
-        if 9223372036854775807 + b < a {
-            9223372036854775807
-        } else {
-            a - b
-        }
+        if GREATEST + b < a { GREATEST } else { a - b }
     }
 }
 
@@ -45,11 +42,11 @@ pub fn gap_times(gap: i64, count: u32) -> i64
         return 0;
     }
     let n = count as i64;
-    if 9223372036854775807 / n < gap {
-        return 9223372036854775807;
+    if GREATEST / n < gap {
+        return GREATEST;
     }
-    if gap < -9223372036854775808 / n {
-        return -9223372036854775808;
+    if gap < LEAST / n {
+        return LEAST;
     }
     gap * n
 }

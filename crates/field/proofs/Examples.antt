@@ -2,7 +2,7 @@
 use mathlib.Core.Path.{_≡_, refl}
 use mathlib.Core.List.{map}
 use Rattle.arithmetic.specs.Scalar.{stop, addSat}
-use Rattle.arithmetic.specs.Growth.{sumTo, table, ahead, rank, total, base, rest, short, topped, share, planGrowth}
+use Rattle.arithmetic.specs.Growth.{sumTo, table, comesBefore, rank, growSum, wholeShare, remainder, missing, shareWithUnit, share, planGrowth}
 use Rattle.text.specs.Choice.{within}
 use Rattle.text.specs.Utf8.{isScalar, encoded}
 use Rattle.text.specs.Reader.{leadOf, stepOf, runFrom, isUtf8, scalarsFrom, scalars}
@@ -13,5 +13,5 @@ use Rattle.field.specs.Metres.{valueOf, behind, metresOf}
 use Rattle.field.specs.Examples.{Row, rows}
 
 pub examples-hold : map (λ (r : Row). r .given) rows ≡ map (λ (r : Row). r .wanted) rows
-unfolding rows stop addSat sumTo table ahead rank total base rest short topped share planGrowth within isScalar encoded leadOf stepOf runFrom isUtf8 scalarsFrom scalars front advances advanceOf stopSum measureOf inRange putIn inserted valueOf behind metresOf
+unfolding rows stop addSat sumTo table comesBefore rank growSum wholeShare remainder missing shareWithUnit share planGrowth within isScalar encoded leadOf stepOf runFrom isUtf8 scalarsFrom scalars front advances advanceOf stopSum measureOf inRange putIn inserted valueOf behind metresOf
 examples-hold = refl

@@ -1,4 +1,4 @@
--- `split` gives the whole shares, their keys and the sum of the shares. The loop's invariant: so it is for the places passed, and the
+-- `whole_shares` gives the whole shares, their keys and the sum of the shares. The loop's invariant: so it is for the places passed, and the
 -- places to come hold 0. No sum passes the leftover, so all of them fit. Assumes nothing.
 use mathlib.Core.Path.{_≡_, refl, sym, _∙_, ap, ap₂, subst}
 use Prim.Native.Nat.{ℕ, _+_, _*_, _-_, _/_, _%_, _≤_, _<_, _^_}
@@ -11,17 +11,16 @@ use lib.ListN.{getD, length, length-set}
 use lib.Seq.{getD-set-other}
 use mir.Syntax.{w64}
 use mir.Facts.{toZ-pos}
-use Rattle.arithmetic.specs.Growth.{sumTo, total, base, rest}
-use Rattle.arithmetic.specs.Steps.{Divisible, PartsOf}
+use Rattle.arithmetic.specs.Growth.{sumTo, growSum, wholeShare, remainder}
 use Rattle.arithmetic.proofs.GrowthShares.{whole-shares-within-leftover}
 use Rattle.arithmetic.proofs.Sums.{sum-of-none, sum-of-one-more, summand-at-most-sum, filled-one-further, repeated-at}
-use Rattle.arithmetic.proofs.growth.split.Statement.{statement}
-use Rattle.arithmetic.proofs.growth.split.Tie as tie
+use Rattle.arithmetic.proofs.growth.whole_shares.Statement.{statement}
+use Rattle.arithmetic.proofs.growth.whole_shares.Tie as tie
 
 abbrev Inv-loop : tie.InvT-loop
 Inv-loop l n t grows shares₀ keys₀ given₀ i₀ shares keys given i =
-    (i ≤ n) × (length shares ≡ 128) × (length keys ≡ 128) × ((k : ℕ) → k < i → getD shares k (pos 0) ≡ pos (base l grows n k)) × ((k : ℕ) → i ≤ k → getD shares k (pos 0) ≡ pos 0)
-    × ((k : ℕ) → k < i → getD keys k 0 ≡ rest l grows n k + 1) × (given ≡ sumTo (base l grows n) i)
+    (i ≤ n) × (length shares ≡ 128) × (length keys ≡ 128) × ((k : ℕ) → k < i → getD shares k (pos 0) ≡ pos (wholeShare l grows n k)) × ((k : ℕ) → i ≤ k → getD shares k (pos 0) ≡ pos 0)
+    × ((k : ℕ) → k < i → getD keys k 0 ≡ remainder l grows n k + 1) × (given ≡ sumTo (wholeShare l grows n) i)
 
 abbrev μ-loop : tie.MeasureT-loop
 μ-loop l n t grows shares₀ keys₀ given₀ i₀ shares keys given i = n - i
@@ -36,11 +35,11 @@ array-read-mul-div : tie.Need-array-read-mul-div Inv-loop μ-loop
 array-read-mul-div c = search needs
 
 mul-div-requires : tie.Need-mul-div-requires Inv-loop μ-loop
-unfolding total
+unfolding growSum
 mul-div-requires c κs =
     let s = c .before .before in
     record {
-      l-fits = s .pre .0;
+      l-fits = omega (arith, s .pre .0);
       g-part = subst (λ (x : ℕ). getD (s .args .t2) (c .before .loop .i) 0 ≤ x) (sym (s .pre .2)) (summand-at-most-sum (λ (k : ℕ). getD (s .args .t2) k 0) _ _ (c .loop-test .taken));
       t-some = s .pre .3;
       t-fits = s .pre .4;
@@ -59,22 +58,22 @@ module _ (c : tie.After-struct-known Inv-loop μ-loop) where
   in-keys : i < length (c .before .before .before .loop .keys)
   in-keys = omega arith
 
-  quotient-is : c .before .mul-div .result .q ≡ base (start .args .l) (start .args .t2) (start .args .n) i
-  unfolding base
+  quotient-is : c .before .mul-div .result .quotient ≡ wholeShare (start .args .l) (start .args .t2) (start .args .n) i
+  unfolding wholeShare
   quotient-is = c .before .mul-div .ensures .0 ∙ ap (λ (x : ℕ). start .args .l * getD (start .args .t2) i 0 / x) (start .pre .2)
 
-  remainder-is : c .before .mul-div .result .r ≡ rest (start .args .l) (start .args .t2) (start .args .n) i
-  unfolding rest
+  remainder-is : c .before .mul-div .result .remainder ≡ remainder (start .args .l) (start .args .t2) (start .args .n) i
+  unfolding remainder
   remainder-is = c .before .mul-div .ensures .1 ∙ ap (λ (x : ℕ). start .args .l * getD (start .args .t2) i 0 % x) (start .pre .2)
 
-  remainder-fits : c .before .mul-div .result .r < 2 ^ 39
+  remainder-fits : c .before .mul-div .result .remainder < 2 ^ 39
   remainder-fits =
       omega (arith, start .pre .4, c .before .mul-div .ensures .1, mod-lt (start .args .l * getD (start .args .t2) i 0) (start .pre .3))
 
-  sum-is : c .before .before .before .loop .given + c .before .mul-div .result .q ≡ sumTo (base (start .args .l) (start .args .t2) (start .args .n)) (i + 1)
+  sum-is : c .before .before .before .loop .given + c .before .mul-div .result .quotient ≡ sumTo (wholeShare (start .args .l) (start .args .t2) (start .args .n)) (i + 1)
   sum-is = ap₂ _+_ (c .before .before .before .loop .inv .6) quotient-is ∙ sym (sum-of-one-more _ _)
 
-  sum-fits : sumTo (base (start .args .l) (start .args .t2) (start .args .n)) (i + 1) ≤ start .args .l
+  sum-fits : sumTo (wholeShare (start .args .l) (start .args .t2) (start .args .n)) (i + 1) ≤ start .args .l
   sum-fits =
       whole-shares-within-leftover _ _ _ (i + 1) (omega arith) (subst (λ (x : ℕ). 0 < x) (start .pre .2) (start .pre .3))
 
@@ -114,9 +113,9 @@ loop-again c =
       omega arith,
       simp length-set (v .1),
       simp length-set (v .2),
-      filled-one-further (λ (k : ℕ). pos (base (s .l) (s .t2) (s .n) k)) (l .loop .shares) _ _ (pos 0) (in-shares d) (toZ-pos w64 (omega (arith, sum-is d, sum-fits d)) ∙ ap pos (quotient-is d)) (v .3),
+      filled-one-further (λ (k : ℕ). pos (wholeShare (s .l) (s .t2) (s .n) k)) (l .loop .shares) _ _ (pos 0) (in-shares d) (toZ-pos w64 (omega (arith, sum-is d, sum-fits d)) ∙ ap pos (quotient-is d)) (v .3),
       (λ k h. getD-set-other (l .loop .shares) _ k _ (pos 0) (λ e. omega arith) ∙ v .4 k (omega arith)),
-      filled-one-further (λ (k : ℕ). rest (s .l) (s .t2) (s .n) k + 1) (l .loop .keys) _ _ 0 (in-keys d) (ap (λ (x : ℕ). x + 1) (remainder-is d)) (v .5),
+      filled-one-further (λ (k : ℕ). remainder (s .l) (s .t2) (s .n) k + 1) (l .loop .keys) _ _ 0 (in-keys d) (ap (λ (x : ℕ). x + 1) (remainder-is d)) (v .5),
       sum-is d,
     )
 
@@ -130,11 +129,11 @@ returns c =
       none-past = rw e at (v .4);
       keys-are = rw e at (v .5);
       given-is = rw e at (v .6);
-      within = omega (arith, v .6, whole-shares-within-leftover (s .l) (s .t2) (s .n) (c .before .loop .i) (v .0) (subst (λ (x : ℕ). 0 < x) (c .before .before .pre .2) (c .before .before .pre .3)));
+      given-fits = omega (arith, v .6, whole-shares-within-leftover (s .l) (s .t2) (s .n) (c .before .loop .i) (v .0) (subst (λ (x : ℕ). 0 < x) (c .before .before .pre .2) (c .before .before .pre .3)));
     }
 
-pub split-spec : {M : Type 1} → statement M
-split-spec =
+pub whole-shares-spec : {M : Type 1} → statement M
+whole-shares-spec =
     tie.close
     (tie.spec
     Inv-loop

@@ -1,25 +1,25 @@
--- `top_up` gives the units by picking. The loop's invariant, `Picked`: the units given so far lie at the places that come first, and
+-- `give_units` gives the units by picking. The loop's invariant, `Picked`: the units given so far lie at the places that come first, and
 -- those places are marked. Assumes nothing.
-use mathlib.Core.Path.{_≡_, _∙_, ap, subst}
+use mathlib.Core.Path.{_≡_, _∙_, ap}
 use Prim.Native.Nat.{ℕ, _-_, _≤_, _<_}
 use native.Mathlib.Omega.{arith}
 use borrow.Author.Needs.{needs}
 use lib.IntN.{ℤ, pos, _+ℤ_}
-use lib.ListN.{getD, length}
+use lib.ListN.{getD}
 use mir.Syntax.{w64}
 use mir.Val.{SFits, toZ, ofZ}
 use mir.Facts.{toZ-ofZ}
 use Rattle.arithmetic.specs.Steps.{withUnit}
 use Rattle.arithmetic.proofs.GrowthPicks.{Picked, picked-at-first, pick-is-new, picked-once-more}
 use Rattle.arithmetic.proofs.Sums.{list-is-table}
-use Rattle.arithmetic.proofs.growth.top_up.Statement.{statement}
-use Rattle.arithmetic.proofs.growth.top_up.Tie as tie
+use Rattle.arithmetic.proofs.growth.give_units.Statement.{statement}
+use Rattle.arithmetic.proofs.growth.give_units.Tie as tie
 
 abbrev Inv-loop : tie.InvT-loop
-Inv-loop n short out₀ left₀ i₀ out left i = (i ≤ short) × Picked n out₀ left₀ out left i
+Inv-loop n missing out₀ left₀ i₀ out left i = (i ≤ missing) × Picked n out₀ left₀ out left i
 
 abbrev μ-loop : tie.MeasureT-loop
-μ-loop n short out₀ left₀ i₀ out left i = short - i
+μ-loop n missing out₀ left₀ i₀ out left i = missing - i
 
 loop-holds : tie.Need-loop-holds Inv-loop μ-loop
 loop-holds c = (omega arith, picked-at-first (c .args .n) (c .args .shares) (c .args .keys) (search needs) (search needs))
@@ -90,12 +90,12 @@ loop-again c =
 returns : tie.Need-returns Inv-loop μ-loop
 returns c =
     let s = c .before .before in
-    let e : c .before .loop .i ≡ s .args .short = omega arith in
-    list-is-table 128 (withUnit (s .args .shares) (s .args .keys) (s .args .n) (s .args .short)) (pos 0) (c .before .loop .out) (c .before .loop .inv .1 .out-full)
+    let e : c .before .loop .i ≡ s .args .missing = omega arith in
+    list-is-table 128 (withUnit (s .args .shares) (s .args .keys) (s .args .n) (s .args .missing)) (pos 0) (c .before .loop .out) (c .before .loop .inv .1 .out-full)
     (λ k l. c .before .loop .inv .1 .units-given k ∙ ap (λ (x : ℕ). withUnit (s .args .shares) (s .args .keys) (s .args .n) x k) e)
 
-pub top-up-spec : {M : Type 1} → statement M
-top-up-spec =
+pub give-units-spec : {M : Type 1} → statement M
+give-units-spec =
     tie.close
     (tie.spec
     Inv-loop

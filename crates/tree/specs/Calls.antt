@@ -1,0 +1,198 @@
+-- Document 01: each call of the tree, with its answer and the next tree. The lowest refusal number that applies is given; a refused call
+-- hands back the tree that it got.
+use Prim.Native.Nat.{ℕ, zero, suc, _+_, _-_}
+use mathlib.Core.Bool.{Bool, true, false, _&&_, _||_, not}
+use mathlib.Core.List.{List, [], _∷_, _++_}
+use lib.Dec.{ltb, eqb}
+use lib.IntN.{ℤ, pos, negsuc}
+use lib.ListN.{length, set, take, replicate}
+use Rattle.text.specs.Refusal.{Answer, accepted, refused}
+use Rattle.text.specs.declared.refusal.Refusal.{Refusal}
+use Rattle.text.specs.declared.refusal.Refusal.the-variants.{Broken, Large, Missing, Full, Root, Foreign, Long, Fieldless}
+use Rattle.field.specs.Fields.{emptyField, shownOf}
+use Rattle.field.specs.declared.NodeId.{NodeId}
+use Rattle.field.specs.declared.MaybeId.{MaybeId}
+use Rattle.field.specs.declared.MaybeId.the-variants.{Absent, Present}
+use Rattle.field.specs.declared.Field.{Field}
+use Rattle.tree.specs.Tests.{pick, same, all, fromTo, finalOr, Maybe, nothing, just}
+use Rattle.tree.specs.Slots.{NIL, Slots, noSlot, at, put, used, idle, isLive, idAt, linkLast, unlink, freeOrder, freed}
+use Rattle.tree.specs.Styles.{noPatch, noRect, freshStyle, freshLayout, freshState, noLayout, noState, noStatePatch, layoutAt}
+use Rattle.tree.specs.States.{Looks, looksOf, inPool, styledAt, tabledAt, bareAll, isId}
+use Rattle.tree.specs.Layout.{passed}
+use Rattle.tree.specs.Fields.{fieldOf, vacant, reclaimed, claimed, firstField}
+use Rattle.tree.specs.Trees.{limitOf, poolOf, withNodes, withLooks, withPool, withFields, withPass}
+use Rattle.tree.specs.Rules.{broken}
+use Rattle.tree.specs.declared.Ui.{Ui}
+use Rattle.tree.specs.declared.Slot.{Slot}
+use Rattle.tree.specs.declared.Style.{Style}
+use Rattle.tree.specs.declared.Rect.{Rect}
+use Rattle.tree.specs.declared.StateSlot.{StateSlot}
+use Rattle.tree.specs.declared.StatePatch.{StatePatch}
+use Rattle.tree.specs.declared.Viewport.{Viewport}
+
+-- What a call gives: the next tree, and its answer.
+pub record Outcome (A : Type 0) : Type 0 where
+  pub next : Ui
+  pub answer : Answer A
+
+abbrev pub gives : {A : Type 0} → Ui → A → Outcome A
+gives u v = record { next = u; answer = accepted v }
+
+abbrev pub refuses : {A : Type 0} → Ui → Refusal → A → Outcome A
+refuses u word none = record { next = u; answer = refused word none }
+
+abbrev pub nobody : NodeId
+nobody = record { index = 0; generation = 0 }
+
+-- A broken tree is refused; then a node that is not live.
+unfoldable pub guarded : {A : Type 0} → Ui → A → Outcome A → Outcome A
+guarded u none o = pick (broken u) (refuses u Broken none) o
+
+unfoldable pub onLive : {A : Type 0} → Ui → NodeId → A → Outcome A → Outcome A
+onLive u d none o = guarded u none (pick (isLive (limitOf u) (u .slots) d) o (refuses u Missing none))
+
+-- `Ui::new`: the root alone; the other slots below the limit in the free chain, in index order.
+unfoldable pub newSlot : ℕ → ℕ → Slot
+newSlot n zero = used 1 NIL NIL NIL NIL NIL
+newSlot n (suc i) = pick (ltb (suc i) n) (idle 1 (pick (ltb (suc (suc i)) n) (suc (suc i)) NIL)) noSlot
+
+unfoldable pub newSlots : ℕ → ℕ → ℕ → Slots
+newSlots n i zero = []
+newSlots n i (suc k) = newSlot n i ∷ newSlots n (suc i) k
+
+unfoldable pub fresh : ℕ → Ui
+fresh n = record {
+  slots = newSlots n 0 128;
+  layout = replicate 128 freshLayout;
+  dirty = true;
+  «solved_for» = record { width = pos 0; height = pos 0 };
+  interaction = record { pointer = record { x = pos 0; y = pos 0 }; pressed = Absent; focus = Absent; activations = 0; decisions = 0; «edit_fold» = 0; overflowed = 0 };
+  outputs = replicate 128 nobody;
+  «output_count» = 0;
+  states = replicate 128 freshState;
+  patches = replicate 64 (record { style = freshStyle; «touches_layout» = false });
+  «patch_count» = 0;
+  stated = replicate 3 0;
+  «stated_count» = 0;
+  «layout_passes» = 0;
+  free = pick (ltb 1 n) 1 NIL;
+  live = 1;
+  limits = record { nodes = n };
+  fields = replicate 8 emptyField;
+}
+
+-- A limit of 0 means 1; one above 128 is refused, with the tree of limit 1.
+unfoldable pub newTree : ℕ → Outcome ℕ
+newTree limit = pick (ltb 128 limit) (refuses (fresh 1) Large 0) (gives (fresh (pick (same limit 0) 1 limit)) 0)
+
+-- A new last child of slot p, in the first free slot.
+unfoldable pub insertAt : Ui → ℕ → Ui
+insertAt u p =
+    let i = u .free in
+    let s = at (u .slots) i in
+    withNodes u
+    (linkLast (put (u .slots) i (used (s .generation) p NIL NIL NIL NIL)) p i)
+    (set (u .layout) i freshLayout) (set (u .states) i freshState) (s .«next_sibling») (u .live + 1)
+
+unfoldable pub insert : Ui → NodeId → Outcome NodeId
+insert u parent =
+    onLive u parent nobody
+    (pick (same (u .free) NIL) (refuses u Full nobody) (gives (insertAt u (parent .index)) (idAt (u .slots) (u .free))))
+
+-- Slot i and all below it leave the tree; their state slots are as new.
+unfoldable pub resetStates : List StateSlot → List ℕ → List StateSlot
+resetStates l [] = l
+resetStates l (i ∷ is) = resetStates (set l i freshState) is
+
+unfoldable pub removeAt : Ui → ℕ → Ui
+removeAt u i =
+    let s = unlink (u .slots) i in
+    let o = freeOrder 128 s i in
+    withNodes u (freed s (u .free) o) (u .layout) (resetStates (u .states) o) (finalOr (u .free) o) (u .live - length o)
+
+unfoldable pub remove : Ui → NodeId → Outcome ℕ
+remove u d = onLive u d 0 (pick (same (d .index) 0) (refuses u Root 0) (gives (removeAt u (d .index)) 0))
+
+unfoldable pub setStyle : Ui → NodeId → Style → Outcome ℕ
+setStyle u d style = onLive u d 0 (gives (styledAt u (d .index) style) 0)
+
+unfoldable pub setStateTable : Ui → NodeId → List ℕ → Outcome ℕ
+setStateTable u d table =
+    onLive u d 0 (pick (all (inPool (u .«patch_count»)) table) (gives (tabledAt u (d .index) table) 0) (refuses u Foreign 0))
+
+-- The pool is the first `count` of the patches; every slot below the limit loses table, bits and patch.
+unfoldable pub pooled : Ui → List StatePatch → ℕ → Ui
+pooled u patches count =
+    let k = bareAll (looksOf u) (fromTo 0 (limitOf u)) in
+    withPool (withLooks u (k .layout) (k .states) (k .dirty)) patches count
+
+unfoldable pub setPatchPool : Ui → List StatePatch → ℕ → Outcome ℕ
+setPatchPool u patches count = guarded u 0 (pick (ltb 64 count) (refuses u Long 0) (gives (pooled u patches count) 0))
+
+-- A node that has a field keeps it. Otherwise the fields of dead owners are cleared and the first free one is taken.
+abbrev pub takeVacant : Ui → NodeId → Maybe Field → Outcome ℕ
+takeVacant u d nothing = refuses u Full 0
+takeVacant u d (just f) = gives (withFields u (claimed d (reclaimed (limitOf u) (u .slots) (u .fields)))) 0
+
+abbrev pub takeField : Ui → NodeId → Maybe Field → Outcome ℕ
+takeField u d (just f) = gives u 0
+takeField u d nothing = takeVacant u d (firstField vacant (reclaimed (limitOf u) (u .slots) (u .fields)))
+
+unfoldable pub makeField : Ui → NodeId → Outcome ℕ
+makeField u d = onLive u d 0 (takeField u d (fieldOf d (u .fields)))
+
+-- A read of the node's field.
+abbrev pub ofField : {A : Type 0} → Ui → A → (Field → Outcome A) → Maybe Field → Outcome A
+ofField u none read nothing = refuses u Fieldless none
+ofField u none read (just f) = read f
+
+unfoldable pub onField : {A : Type 0} → Ui → NodeId → A → (Field → Outcome A) → Outcome A
+onField u d none read = onLive u d none (ofField u none read (fieldOf d (u .fields)))
+
+-- A text: 64 bytes, 0 past the length, and the length.
+pub record Shown : Type 0 where
+  pub bytes : List ℕ
+  pub len : ℕ
+
+abbrev pub noText : Shown
+noText = record { bytes = replicate 64 0; len = 0 }
+
+abbrev pub shown : Field → Shown
+shown f = record { bytes = shownOf f; len = f .len }
+
+unfoldable pub fieldText : Ui → NodeId → Outcome Shown
+fieldText u d = onField u d noText (λ f. gives u (shown f))
+
+unfoldable pub fieldCursor : Ui → NodeId → Outcome ℕ
+fieldCursor u d = onField u d 0 (λ f. gives u (f .cursor))
+
+-- A pass is made where one is due or the viewport is another.
+abbrev pub sameZ : ℤ → ℤ → Bool
+sameZ (pos m) (pos n) = same m n
+sameZ (pos m) (negsuc n) = false
+sameZ (negsuc m) (pos n) = false
+sameZ (negsuc m) (negsuc n) = same m n
+
+abbrev pub sameView : Viewport → Viewport → Bool
+sameView v w = sameZ (v .width) (w .width) && sameZ (v .height) (w .height)
+
+unfoldable pub solve : Ui → Viewport → Outcome ℕ
+solve u v =
+    guarded u 0 (pick (not (u .dirty) && sameView (u .«solved_for») v) (gives u 0) (gives (withPass u (passed (u .slots) (u .layout) v) v) 0))
+
+unfoldable pub rect : Ui → NodeId → Outcome Rect
+rect u d = onLive u d noRect (gives u (layoutAt (u .layout) (d .index) .rect))
+
+-- A dead node is just not live, and has no first child; of its next sibling is asked in vain.
+unfoldable pub live : Ui → NodeId → Outcome Bool
+live u d = guarded u false (gives u (isLive (limitOf u) (u .slots) d))
+
+abbrev pub linked : Ui → ℕ → MaybeId
+linked u i = pick (same i NIL) Absent (Present (idAt (u .slots) i))
+
+unfoldable pub firstChild : Ui → NodeId → Outcome MaybeId
+firstChild u d =
+    guarded u Absent (gives u (pick (isLive (limitOf u) (u .slots) d) (linked u (at (u .slots) (d .index) .«first_child»)) Absent))
+
+unfoldable pub nextSibling : Ui → NodeId → Outcome MaybeId
+nextSibling u d = onLive u d Absent (gives u (linked u (at (u .slots) (d .index) .«next_sibling»)))

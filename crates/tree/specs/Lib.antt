@@ -1,0 +1,12 @@
+pub mod Tests
+pub mod Trees
+pub mod Slots
+pub mod Styles
+pub mod States
+pub mod Layout
+pub mod Hit
+pub mod Forest
+pub mod Fields
+pub mod Rules
+pub mod Calls
+pub mod Nodes
