@@ -1,0 +1,143 @@
+-- Demand 3, as one statement over every list of calls. Start here.
+--
+-- What it promises the harbour master: whatever was inserted, removed, styled, pressed and typed before, and however slots and fields were
+-- used again, a live node answers as if every node ever made had a name of its own. Its text is made of the keys that were handled while it had
+-- the focus, and of no other ship's; a field into which no key fell is empty and reads as 9, never as 0; its box is that of the last pass.
+use Prim.Native.Nat.{ℕ, zero, suc, _<_, _^_}
+use mathlib.Core.Path.{_≡_}
+use mathlib.Core.Bool.{Bool, true, false}
+use mathlib.Core.List.{List, [], _∷_}
+use lib.ListN.{length}
+use Rattle.text.specs.Refusal.{Answer, accepted}
+use Rattle.field.specs.declared.NodeId.{NodeId}
+use Rattle.field.specs.declared.MaybeId.{MaybeId}
+use Rattle.field.specs.declared.MaybeId.the-variants.{Absent, Present}
+use Rattle.tree.specs.Tests.{pick, same}
+use Rattle.tree.specs.States.{sameId}
+use Rattle.tree.specs.Forest.{hasId, kidsOf, ids}
+use Rattle.tree.specs.Calls as tree
+use Rattle.tree.specs.Calls.{Outcome, nobody}
+use Rattle.tree.specs.declared.Ui.{Ui}
+use Rattle.desk.specs.Events as desk
+use Rattle.desk.specs.History.{History, Call, start, judge, note, textSaid, caretSaid, metresSaid, rectSaid, idNamed, rootId}
+use Rattle.desk.specs.History.Call.{insert, remove, setStyle, setStateTable, setPatchPool, makeField, solve, handle, nextOutput, fieldText, fieldCursor, metres, rect, live, firstChild, nextSibling, absorb}
+
+-- ---- the calls, by the definitions that the contracts cite
+
+-- The next tree, the refusal number, and what the history is told: the id that an accepted insert gave.
+pub record Step : Type 0 where
+  pub next : Ui
+  pub number : ℕ
+  pub told : NodeId
+
+abbrev pub silent : {A : Type 0} → Outcome A → Step
+silent o = record { next = o .next; number = o .answer .number; told = nobody }
+
+abbrev pub telling : Outcome NodeId → Step
+telling o = record { next = o .next; number = o .answer .number; told = o .answer .value }
+
+unfoldable pub step : Ui → Call → Step
+step u (insert d) = telling (tree.insert u d)
+step u (remove d) = silent (tree.remove u d)
+step u (setStyle d s) = silent (tree.setStyle u d s)
+step u (setStateTable d table) = silent (tree.setStateTable u d table)
+step u (setPatchPool patches count) = silent (tree.setPatchPool u patches count)
+step u (makeField d) = silent (tree.makeField u d)
+step u (solve v) = silent (tree.solve u v)
+step u (handle e) = silent (desk.handle u e)
+step u nextOutput = silent (desk.nextOutput u)
+step u (fieldText d) = silent (tree.fieldText u d)
+step u (fieldCursor d) = silent (tree.fieldCursor u d)
+step u (metres d) = silent (desk.metres u d)
+step u (rect d) = silent (tree.rect u d)
+step u (live d) = silent (tree.live u d)
+step u (firstChild d) = silent (tree.firstChild u d)
+step u (nextSibling d) = silent (tree.nextSibling u d)
+step u (absorb s) = silent (desk.absorb u s)
+
+-- A list of calls: the tree after it, the refusal numbers, what the history is told, and the ids of the accepted inserts.
+abbrev pub run : Ui → List Call → Ui
+run u [] = u
+run u (c ∷ cs) = run (step u c .next) cs
+
+abbrev pub numbers : Ui → List Call → List ℕ
+numbers u [] = []
+numbers u (c ∷ cs) = step u c .number ∷ numbers (step u c .next) cs
+
+abbrev pub feed : Ui → List Call → List NodeId
+feed u [] = []
+feed u (c ∷ cs) = step u c .told ∷ feed (step u c .next) cs
+
+abbrev pub isInsert : Call → Bool
+isInsert (insert d) = true
+isInsert (remove d) = false
+isInsert (setStyle d s) = false
+isInsert (setStateTable d table) = false
+isInsert (setPatchPool patches count) = false
+isInsert (makeField d) = false
+isInsert (solve v) = false
+isInsert (handle e) = false
+isInsert nextOutput = false
+isInsert (fieldText d) = false
+isInsert (fieldCursor d) = false
+isInsert (metres d) = false
+isInsert (rect d) = false
+isInsert (live d) = false
+isInsert (firstChild d) = false
+isInsert (nextSibling d) = false
+isInsert (absorb s) = false
+
+abbrev pub given : Ui → List Call → List NodeId
+given u [] = []
+given u (c ∷ cs) = pick (isInsert c) (pick (same (step u c .number) 0) (step u c .told ∷ given (step u c .next) cs) (given (step u c .next) cs)) (given (step u c .next) cs)
+
+-- ---- the history over the same list
+
+abbrev pub follow : History → List Call → List NodeId → History
+follow h [] fed = h
+follow h (c ∷ cs) [] = h
+follow h (c ∷ cs) (d ∷ fed) = follow (note h c d) cs fed
+
+abbrev pub judged : History → List Call → List NodeId → List ℕ
+judged h [] fed = []
+judged h (c ∷ cs) [] = []
+judged h (c ∷ cs) (d ∷ fed) = judge h c ∷ judged (note h c d) cs fed
+
+-- ---- the claim
+
+-- The children of a node in order, by the calls for the first child and the next sibling.
+abbrev pub siblings : ℕ → Ui → MaybeId → List NodeId
+siblings zero u m = []
+siblings (suc k) u Absent = []
+siblings (suc k) u (Present d) = d ∷ siblings k u (tree.nextSibling u d .answer .value)
+
+abbrev pub childrenBy : Ui → NodeId → List NodeId
+childrenBy u d = siblings 128 u (tree.firstChild u d .answer .value)
+
+-- Of every id at all, what the calls answer is what the history says; and the stored focus is the history's, a dead one or none included.
+pub record Agree (u : Ui) (h : History) : Type 0 where
+  pub live-is : (d : NodeId) → tree.live u d .answer ≡ accepted (hasId d (h .tree))
+  pub children-are : (d : NodeId) → childrenBy u d ≡ ids (kidsOf d (h .tree))
+  pub text-is : (d : NodeId) → tree.fieldText u d .answer ≡ textSaid h d
+  pub caret-is : (d : NodeId) → tree.fieldCursor u d .answer ≡ caretSaid h d
+  pub metres-are : (d : NodeId) → desk.metres u d .answer ≡ metresSaid h d
+  pub rect-is : (d : NodeId) → tree.rect u d .answer ≡ rectSaid h d
+  pub focus-is : u .interaction .focus ≡ idNamed (h .named) (h .input .focus)
+
+-- No two ids of a list are the same.
+abbrev pub Others : NodeId → List NodeId → Type 0
+Others d [] = Unit {0}
+Others d (e ∷ es) = (sameId d e ≡ false) × Others d es
+
+abbrev pub Distinct : List NodeId → Type 0
+Distinct [] = Unit {0}
+Distinct (d ∷ ds) = Others d ds × Distinct ds
+
+-- Of a limit and a list of calls: each call was refused just as the history says, no id was given twice, and then all is as the history says.
+pub record Holds (limit : ℕ) (cs : List Call) : Type 0 where
+  pub refused-alike : numbers (tree.newTree limit .next) cs ≡ judged (start limit) cs (feed (tree.newTree limit .next) cs)
+  pub ids-differ : Distinct (rootId ∷ given (tree.newTree limit .next) cs)
+  pub agree : Agree (run (tree.newTree limit .next) cs) (follow (start limit) cs (feed (tree.newTree limit .next) cs))
+
+abbrev pub Demand3 : Type 0
+Demand3 = (limit : ℕ) → limit < 2 ^ 32 → (cs : List Call) → length cs < 2 ^ 63 → Holds limit cs

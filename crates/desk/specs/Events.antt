@@ -1,0 +1,146 @@
+-- Document 01, **Input** and **Metres**: each event, the oldest output, the fingerprint, and metres by node.
+use Prim.Native.Nat.{ℕ, _+_}
+use mathlib.Core.Bool.{Bool, true, false, _&&_, _||_, not}
+use mathlib.Core.List.{List, [], _∷_, _++_}
+use lib.Dec.{ltb}
+use lib.IntN.{ℤ}
+use lib.ListN.{length}
+use Rattle.arithmetic.specs.Scalar.{incremented, unsignedOf}
+use Rattle.arithmetic.specs.Fold.{lowBytes, emptyHash, absorbed}
+use Rattle.arithmetic.specs.declared.fold.StateHash.{StateHash}
+use Rattle.field.specs.Fields.{inserted, edited}
+use Rattle.field.specs.Metres.{fieldMetres}
+use Rattle.field.specs.declared.NodeId.{NodeId}
+use Rattle.field.specs.declared.MaybeId.{MaybeId}
+use Rattle.field.specs.declared.MaybeId.the-variants.{Absent, Present}
+use Rattle.field.specs.declared.Field.{Field}
+use Rattle.field.specs.declared.EditOp.{EditOp}
+use Rattle.field.specs.declared.EditOp.the-variants.{Backspace, Delete, Left, Right, Home, End}
+use Rattle.tree.specs.Tests.{pick, same, Maybe, nothing, just}
+use Rattle.tree.specs.Slots.{isLive}
+use Rattle.tree.specs.States.{isId, refreshed}
+use Rattle.tree.specs.Hit.{hitTest}
+use Rattle.tree.specs.Fields.{owns, fieldOf, changeFirst}
+use Rattle.tree.specs.Trees.{limitOf, waitingOf, withFields, withInteraction, withWaiting}
+use Rattle.tree.specs.Calls.{Outcome, gives, guarded, onField}
+use Rattle.tree.specs.declared.Ui.{Ui}
+use Rattle.tree.specs.declared.Pointer.{Pointer}
+use Rattle.tree.specs.declared.Interaction.{Interaction}
+use Rattle.desk.specs.declared.UiEvent.{UiEvent}
+use Rattle.desk.specs.declared.UiEvent.the-variants.{PointerMoved, PointerPressed, PointerReleased, TextEntered, Edit}
+use Rattle.desk.specs.declared.Key.{Key}
+use Rattle.desk.specs.declared.Key.the-variants.{Char, Op}
+
+-- The interaction with some of it changed.
+abbrev pub pointedAt : Interaction → Pointer → Interaction
+pointedAt a pixel = record { pointer = pixel; pressed = a .pressed; focus = a .focus; activations = a .activations; decisions = a .decisions; «edit_fold» = a .«edit_fold»; overflowed = a .overflowed }
+
+abbrev pub pressedOn : Interaction → MaybeId → Interaction
+pressedOn a d = record { pointer = a .pointer; pressed = d; focus = a .focus; activations = a .activations; decisions = a .decisions; «edit_fold» = a .«edit_fold»; overflowed = a .overflowed }
+
+abbrev pub foldedBy : Interaction → ℕ → Interaction
+foldedBy a h = record { pointer = a .pointer; pressed = a .pressed; focus = a .focus; activations = a .activations; decisions = a .decisions; «edit_fold» = h; overflowed = a .overflowed }
+
+-- An id's bytes, as the folds take them; an absent one is 2^32 - 1 and generation 0.
+abbrev pub idBytes : NodeId → List ℕ
+idBytes d = lowBytes 4 (d .index) ++ lowBytes 8 (d .generation)
+
+abbrev pub maybeBytes : MaybeId → List ℕ
+maybeBytes Absent = lowBytes 4 4294967295 ++ lowBytes 8 0
+maybeBytes (Present d) = idBytes d
+
+-- A node is activated: it is counted, folded, and takes the focus; the press ends. The output waits where the queue has room, else it is counted as lost.
+unfoldable pub activated : Interaction → NodeId → ℕ → Interaction
+activated a d lost = record {
+  pointer = a .pointer;
+  pressed = Absent;
+  focus = Present d;
+  activations = incremented (a .activations);
+  decisions = absorbed emptyHash (lowBytes 8 (a .decisions) ++ idBytes d) .state;
+  «edit_fold» = a .«edit_fold»;
+  overflowed = pick (same lost 0) (a .overflowed) (incremented (a .overflowed));
+}
+
+unfoldable pub activate : Ui → NodeId → Ui
+activate u d =
+    pick (ltb (u .«output_count») (limitOf u))
+    (withInteraction (withWaiting u (waitingOf u ++ d ∷ [])) (activated (u .interaction) d 0))
+    (withInteraction u (activated (u .interaction) d 1))
+
+-- A release on the very node of the press activates it; every release ends the press.
+abbrev pub releasedOn : Ui → MaybeId → MaybeId → Ui
+releasedOn u hit Absent = withInteraction u (pressedOn (u .interaction) Absent)
+releasedOn u hit (Present d) = pick (isId hit d) (activate u d) (withInteraction u (pressedOn (u .interaction) Absent))
+
+-- A key's edit, its kind and its number for the fold.
+abbrev pub keyedField : Key → Field → Field
+keyedField (Char c) f = inserted f c
+keyedField (Op op) f = edited f op
+
+abbrev pub opCode : EditOp → ℕ
+opCode Backspace = 1
+opCode Delete = 2
+opCode Left = 3
+opCode Right = 4
+opCode Home = 5
+opCode End = 6
+
+abbrev pub keyBytes : Key → List ℕ
+keyBytes (Char c) = lowBytes 8 1 ++ lowBytes 8 c
+keyBytes (Op op) = lowBytes 8 2 ++ lowBytes 8 (opCode op)
+
+-- The edit changed something: length or caret.
+abbrev pub changed : Field → Field → Bool
+changed f g = not (same (f .len) (g .len) && same (f .cursor) (g .cursor))
+
+unfoldable pub editFold : Ui → NodeId → Key → ℕ
+editFold u d key = absorbed emptyHash (lowBytes 8 (u .interaction .«edit_fold») ++ idBytes d ++ keyBytes key) .state
+
+-- The field of the node in focus is edited; the fold takes what changed it.
+abbrev pub editField : Ui → NodeId → Key → Maybe Field → Ui
+editField u d key nothing = u
+editField u d key (just f) =
+    withInteraction (withFields u (changeFirst (owns d) (keyedField key) (u .fields)))
+    (pick (changed f (keyedField key f)) (foldedBy (u .interaction) (editFold u d key)) (u .interaction))
+
+abbrev pub editFocused : Ui → Key → MaybeId → Ui
+editFocused u key Absent = u
+editFocused u key (Present d) = pick (isLive (limitOf u) (u .slots) d) (editField u d key (fieldOf d (u .fields))) u
+
+-- An event before the bits are refreshed, with `hit` the node under the pointer.
+abbrev pub heard : Ui → MaybeId → UiEvent → Ui
+heard u hit (PointerMoved x′ y′) = withInteraction u (pointedAt (u .interaction) (record { x = x′; y = y′ }))
+heard u hit PointerPressed = withInteraction u (pressedOn (u .interaction) hit)
+heard u hit PointerReleased = releasedOn u hit (u .interaction .pressed)
+heard u hit (TextEntered ch) = editFocused u (Char ch) (u .interaction .focus)
+heard u hit (Edit op) = editFocused u (Op op) (u .interaction .focus)
+
+unfoldable pub hitOf : Ui → MaybeId
+hitOf u = hitTest u (u .interaction .pointer)
+
+unfoldable pub handled : Ui → UiEvent → Ui
+handled u event = let v = heard u (hitOf u) event in refreshed v (hitOf v)
+
+unfoldable pub handle : Ui → UiEvent → Outcome ℕ
+handle u event = guarded u 0 (gives (handled u event) 0)
+
+-- The oldest waiting output is taken; none where none waits.
+abbrev pub takeOldest : Ui → List NodeId → Outcome MaybeId
+takeOldest u [] = gives u Absent
+takeOldest u (d ∷ ds) = gives (withWaiting u ds) (Present d)
+
+unfoldable pub nextOutput : Ui → Outcome MaybeId
+nextOutput u = guarded u Absent (takeOldest u (waitingOf u))
+
+-- The fingerprint: the interaction on a fold that stands at some state.
+unfoldable pub absorb : Ui → StateHash → Outcome ℕ
+absorb u h =
+    let a = u .interaction in
+    guarded u 0 (gives u (absorbed h (
+    lowBytes 4 (unsignedOf (a .pointer .x)) ++ lowBytes 4 (unsignedOf (a .pointer .y)) ++ maybeBytes (a .pressed) ++ maybeBytes (a .focus)
+    ++ lowBytes 8 (a .activations) ++ lowBytes 8 (a .decisions) ++ lowBytes 8 (a .overflowed) ++ lowBytes 8 (a .«edit_fold»)
+    ) .state))
+
+-- The field of the node read as metres, in whole centimetres.
+unfoldable pub metres : Ui → NodeId → Outcome ℕ
+metres u d = onField u d 0 (λ f. record { next = u; answer = fieldMetres f })

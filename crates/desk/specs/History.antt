@@ -1,0 +1,245 @@
+-- Document 01, "The history of demand 3". It is fed the new tree's limit and each call with its arguments, and of the answers only the id
+-- that an accepted insert gives. Press, focus and the field of a key are names: a name is made at each accepted insert and used once.
+use Prim.Native.Nat.{ℕ, zero, suc, _+_, _-_}
+use mathlib.Core.Bool.{Bool, true, false, _&&_, _||_, not}
+use mathlib.Core.List.{List, [], _∷_, _++_, map}
+use lib.Dec.{ltb}
+use lib.IntN.{ℤ, pos}
+use lib.ListN.{length, getD, take, replicate}
+use Rattle.text.specs.Refusal.{Answer, accepted, refused, numberOf}
+use Rattle.text.specs.declared.refusal.Refusal.the-variants.{Large, Missing, Full, Root, Foreign, Long, Fieldless}
+use Rattle.arithmetic.specs.declared.fold.StateHash.{StateHash}
+use Rattle.field.specs.Text.{Text, text, bytesOf, caretOf, typed, keyed}
+use Rattle.field.specs.Metres.{metresOf}
+use Rattle.field.specs.declared.NodeId.{NodeId}
+use Rattle.field.specs.declared.MaybeId.{MaybeId}
+use Rattle.field.specs.declared.MaybeId.the-variants.{Absent, Present}
+use Rattle.tree.specs.Tests.{pick, same, all, Maybe, nothing, just}
+use Rattle.tree.specs.Styles.{noPatch, noRect}
+use Rattle.tree.specs.States.{inPool, sameId}
+use Rattle.tree.specs.Layout.{viewRect}
+use Rattle.tree.specs.Forest.{Forest, nil, node, app, hasBoth, hasId, kidsOf, setKidsOf, cutOf, find, ids, size, mapF, anyF}
+use Rattle.tree.specs.Nodes.{Info, newInfo, withField, changeOf, changeNamed, wears, swaps, bitsFor, restyled, withTable, bare, placeF, hitF, hasField, bit}
+use Rattle.tree.specs.Calls.{Shown, noText, nobody, sameView}
+use Rattle.tree.specs.declared.Style.{Style}
+use Rattle.tree.specs.declared.Rect.{Rect}
+use Rattle.tree.specs.declared.StatePatch.{StatePatch}
+use Rattle.tree.specs.declared.Viewport.{Viewport}
+use Rattle.tree.specs.declared.Pointer.{Pointer}
+use Rattle.desk.specs.declared.UiEvent.{UiEvent}
+use Rattle.desk.specs.declared.UiEvent.the-variants.{PointerMoved, PointerPressed, PointerReleased, TextEntered, Edit}
+use Rattle.desk.specs.declared.Key.{Key}
+use Rattle.desk.specs.declared.Key.the-variants.{Char, Op}
+
+-- A call of the tree with its arguments.
+pub data Call : Type 0 where
+  insert : NodeId → Call
+  remove : NodeId → Call
+  setStyle : NodeId → Style → Call
+  setStateTable : NodeId → List ℕ → Call
+  setPatchPool : List StatePatch → ℕ → Call
+  makeField : NodeId → Call
+  solve : Viewport → Call
+  handle : UiEvent → Call
+  nextOutput : Call
+  fieldText : NodeId → Call
+  fieldCursor : NodeId → Call
+  metres : NodeId → Call
+  rect : NodeId → Call
+  live : NodeId → Call
+  firstChild : NodeId → Call
+  nextSibling : NodeId → Call
+  absorb : StateHash → Call
+
+-- The pointer, and the names of the nodes pressed and in focus, dead or not.
+pub record Input : Type 0 where
+  pub pointer : Pointer
+  pub pressed : Maybe ℕ
+  pub focus : Maybe ℕ
+
+-- What a pass and wearing go by: the pool, the viewport of the last pass, and whether a pass is due.
+pub record Board : Type 0 where
+  pub pool : List StatePatch
+  pub viewport : Viewport
+  pub dirty : Bool
+
+-- The live nodes; every id that was ever given, at the place of its node's name; the board; the input.
+pub record History : Type 0 where
+  pub limit : ℕ
+  pub tree : Forest Info
+  pub named : List NodeId
+  pub board : Board
+  pub input : Input
+
+abbrev pub rootId : NodeId
+rootId = record { index = 0; generation = 1 }
+
+-- A limit of 0 means 1, and so does one above 128, which is refused.
+unfoldable pub limitFrom : ℕ → ℕ
+limitFrom limit = pick (ltb 128 limit) 1 (pick (same limit 0) 1 limit)
+
+unfoldable pub start : ℕ → History
+start limit′ = record {
+  limit = limitFrom limit′;
+  tree = node 0 1 (newInfo 0) nil nil;
+  named = rootId ∷ [];
+  board = record { pool = []; viewport = record { width = pos 0; height = pos 0 }; dirty = true };
+  input = record { pointer = record { x = pos 0; y = pos 0 }; pressed = nothing; focus = nothing };
+}
+
+-- The history with some of it changed.
+abbrev pub withTree : History → Forest Info → Bool → History
+withTree h t d = record { limit = h .limit; tree = t; named = h .named; board = record { pool = h .board .pool; viewport = h .board .viewport; dirty = d }; input = h .input }
+
+abbrev pub withInput : History → Input → History
+withInput h i = record { limit = h .limit; tree = h .tree; named = h .named; board = h .board; input = i }
+
+-- Some live node has the id.
+abbrev pub has : History → NodeId → Bool
+has h d = hasId d (h .tree)
+
+-- How many live nodes have a field.
+abbrev pub fieldCount : Forest Info → ℕ
+fieldCount nil = 0
+fieldCount (node i g x cs sib) = bit (hasField x) + (fieldCount cs + fieldCount sib)
+
+-- What reads answer of an id: of a live node what the history has of it.
+abbrev pub ofText : {A : Type 0} → A → (Text → Answer A) → Maybe Text → Answer A
+ofText none read nothing = refused Fieldless none
+ofText none read (just t) = read t
+
+abbrev pub ofNode : {A : Type 0} → A → (Info → Answer A) → Maybe Info → Answer A
+ofNode none read nothing = refused Missing none
+ofNode none read (just x) = read x
+
+abbrev pub padded : Text → Shown
+padded t = record { bytes = bytesOf t ++ replicate (64 - length (bytesOf t)) 0; len = length (bytesOf t) }
+
+unfoldable pub textSaid : History → NodeId → Answer Shown
+textSaid h d = ofNode noText (λ x. ofText noText (λ t. accepted (padded t)) (x .text)) (find d (h .tree))
+
+unfoldable pub caretSaid : History → NodeId → Answer ℕ
+caretSaid h d = ofNode 0 (λ x. ofText 0 (λ t. accepted (caretOf t)) (x .text)) (find d (h .tree))
+
+unfoldable pub metresSaid : History → NodeId → Answer ℕ
+metresSaid h d = ofNode 0 (λ x. ofText 0 (λ t. metresOf (bytesOf t)) (x .text)) (find d (h .tree))
+
+unfoldable pub rectSaid : History → NodeId → Answer Rect
+rectSaid h d = ofNode noRect (λ x. accepted (x .rect)) (find d (h .tree))
+
+-- The refusal number of a call, by document 01's table; 0 where it is accepted. Number 1 never comes.
+abbrev pub unless : Bool → ℕ → ℕ → ℕ
+unless b n m = pick b m n
+
+abbrev pub judgeField : History → Maybe Info → ℕ
+judgeField h nothing = numberOf Missing
+judgeField h (just x) = unless (hasField x || ltb (fieldCount (h .tree)) 8) (numberOf Full) 0
+
+unfoldable pub judge : History → Call → ℕ
+judge h (insert d) = unless (has h d) (numberOf Missing) (unless (ltb (size (h .tree)) (h .limit)) (numberOf Full) 0)
+judge h (remove d) = unless (has h d) (numberOf Missing) (unless (not (sameId d rootId)) (numberOf Root) 0)
+judge h (setStyle d s) = unless (has h d) (numberOf Missing) 0
+judge h (setStateTable d table) = unless (has h d) (numberOf Missing) (unless (all (inPool (length (h .board .pool))) table) (numberOf Foreign) 0)
+judge h (setPatchPool patches count) = unless (not (ltb 64 count)) (numberOf Long) 0
+judge h (makeField d) = judgeField h (find d (h .tree))
+judge h (solve v) = 0
+judge h (handle e) = 0
+judge h nextOutput = 0
+judge h (fieldText d) = textSaid h d .number
+judge h (fieldCursor d) = caretSaid h d .number
+judge h (metres d) = metresSaid h d .number
+judge h (rect d) = rectSaid h d .number
+judge h (live d) = 0
+judge h (firstChild d) = 0
+judge h (nextSibling d) = unless (has h d) (numberOf Missing) 0
+judge h (absorb s) = 0
+
+-- The node under the pointer, by this tree and these boxes.
+abbrev pub hovered : History → Maybe ℕ
+hovered h = hitF (h .input .pointer) nothing (h .tree)
+
+-- Every live node wears the bits that follow from the hit, the press and the focus.
+unfoldable pub refresh : History → History
+refresh h =
+    let bits : Info → ℕ = bitsFor (hovered h) (h .input .pressed) (h .input .focus) in
+    let pool = h .board .pool in
+    withTree h (mapF (λ i g x. wears pool (bits x) x) (h .tree)) (h .board .dirty || anyF (λ i g x. swaps pool (bits x) x) (h .tree))
+
+-- The name is the other's.
+abbrev pub sameName : Maybe ℕ → Maybe ℕ → Bool
+sameName nothing m = false
+sameName (just k) nothing = false
+sameName (just k) (just m) = same k m
+
+-- A key is one edit of the text.
+abbrev pub keyText : Key → Text → Text
+keyText (Char c) t = typed c t
+keyText (Op op) t = keyed op t
+
+abbrev pub mapMaybe : (Text → Text) → Maybe Text → Maybe Text
+mapMaybe f nothing = nothing
+mapMaybe f (just t) = just (f t)
+
+abbrev pub typedInto : History → Key → History
+typedInto h key = withTree h (changeNamed (h .input .focus) (λ x. withField x (mapMaybe (keyText key) (x .text))) (h .tree)) (h .board .dirty)
+
+-- An event before the bits are refreshed.
+abbrev pub hears : History → UiEvent → History
+hears h (PointerMoved x′ y′) = withInput h (record { pointer = record { x = x′; y = y′ }; pressed = h .input .pressed; focus = h .input .focus })
+hears h PointerPressed = withInput h (record { pointer = h .input .pointer; pressed = hovered h; focus = h .input .focus })
+hears h PointerReleased =
+    withInput h (record { pointer = h .input .pointer; pressed = nothing; focus = pick (sameName (h .input .pressed) (hovered h)) (h .input .pressed) (h .input .focus) })
+hears h (TextEntered ch) = typedInto h (Char ch)
+hears h (Edit op) = typedInto h (Op op)
+
+-- A new last child of a node, with a name never used.
+unfoldable pub grown : History → NodeId → NodeId → History
+grown h parent new =
+    let x = newInfo (length (h .named)) in
+    let t = setKidsOf parent (app (kidsOf parent (h .tree)) (node (new .index) (new .generation) x nil nil)) (h .tree) in
+    record { limit = h .limit; tree = t; named = h .named ++ new ∷ []; board = record { pool = h .board .pool; viewport = h .board .viewport; dirty = true }; input = h .input }
+
+abbrev pub keepText : Maybe Text → Maybe Text
+keepText nothing = just (text [] [])
+keepText (just t) = just t
+
+-- What an accepted call makes of the history; `new` is the id that an insert gave.
+unfoldable pub accept : History → Call → NodeId → History
+accept h (insert d) new = grown h d new
+accept h (remove d) new = withTree h (cutOf d (h .tree)) true
+accept h (setStyle d s) new = withTree h (changeOf d (restyled s) (h .tree)) true
+accept h (setStateTable d table) new =
+    let pool = h .board .pool in
+    withTree h (changeOf d (λ x. wears pool (x .bits) (withTable table x)) (h .tree))
+    (h .board .dirty || anyF (λ i g x. hasBoth d i g && swaps pool (x .bits) (withTable table x)) (h .tree))
+accept h (setPatchPool patches count) new =
+    record {
+      limit = h .limit;
+      tree = mapF (λ i g x. bare x) (h .tree);
+      named = h .named;
+      board = record { pool = take count patches; viewport = h .board .viewport; dirty = h .board .dirty || anyF (λ i g x. not (same (x .applied) noPatch)) (h .tree) };
+      input = h .input;
+    }
+accept h (makeField d) new = withTree h (changeOf d (λ x. withField x (keepText (x .text))) (h .tree)) (h .board .dirty)
+accept h (solve v) new =
+    pick (not (h .board .dirty) && sameView (h .board .viewport) v) h
+    (record { limit = h .limit; tree = placeF (h .tree) (viewRect v ∷ []); named = h .named; board = record { pool = h .board .pool; viewport = v; dirty = false }; input = h .input })
+accept h (handle e) new = refresh (hears h e)
+accept h nextOutput new = h
+accept h (fieldText d) new = h
+accept h (fieldCursor d) new = h
+accept h (metres d) new = h
+accept h (rect d) new = h
+accept h (live d) new = h
+accept h (firstChild d) new = h
+accept h (nextSibling d) new = h
+accept h (absorb s) new = h
+
+-- A refused call changes nothing.
+unfoldable pub note : History → Call → NodeId → History
+note h c new = pick (same (judge h c) 0) (accept h c new) h
+
+-- The stored focus: the id of the node that has the name, dead or not.
+abbrev pub idNamed : List NodeId → Maybe ℕ → MaybeId
+idNamed named nothing = Absent
+idNamed named (just m) = Present (getD named m nobody)

@@ -1,0 +1,3 @@
+pub mod Events
+pub mod History
+pub mod Demand3
