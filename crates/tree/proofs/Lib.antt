@@ -4,3 +4,4 @@ pub mod ForestLaws
 pub mod Segments
 pub mod Relations
 pub mod Payloads
+pub mod Orders
