@@ -5,3 +5,5 @@ pub mod Segments
 pub mod Relations
 pub mod Payloads
 pub mod Orders
+pub mod SlotChanges
+pub mod LinkInserts
