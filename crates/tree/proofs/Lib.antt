@@ -7,3 +7,5 @@ pub mod Payloads
 pub mod Orders
 pub mod SlotChanges
 pub mod LinkInserts
+pub mod FreeOrders
+pub mod LinkRemovals

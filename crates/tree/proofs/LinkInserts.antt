@@ -14,7 +14,7 @@ use Rattle.tree.proofs.TestLaws.{same-no, same-refl, δ-refl, eq-cases}
 use Rattle.tree.proofs.ForestLaws.{firstOr, lastOr, cnt, kids, setKids, cnt-rest, lastOr-app, top-le-cnt, wt, wt-set, wt-rest, wt-app, top-set, own-kids, ne-by, cnt-kids-le, size-is-a-sum}
 use Rattle.tree.proofs.Segments.{len-put, at-put, at-other, SegR, seg-join, seg-set, seg-find, seg-next′, last-count, last-in}
 use Rattle.tree.proofs.Relations.{Rel, once, below, free-frame}
-use Rattle.tree.proofs.SlotChanges.{len-change, at-change, change-other, put-keep, change-keep}
+use Rattle.tree.proofs.SlotChanges.{genOf, len-change, at-change, change-other, put-keep, change-keep}
 
 -- what the linking does to each slot
 pub record Linked (a b : Slots) (p i l : ℕ) : Type 0 where
@@ -50,9 +50,6 @@ linked a p i l v hp hi hl n1 n2 n3 =
       atL = λ q. simp (at-change, change-other);
       rest = λ j j1 j2 j3. simp (at-change, change-other);
     })
-
-abbrev genOf : Slot → ℕ
-genOf s = s .generation
 
 pub linking-keeps-generations : (a : Slots) (p i l j : ℕ) → at (linkAfter a p i l) j .generation ≡ at a j .generation
 unfolding linkAfter

@@ -12,6 +12,9 @@ use Rattle.tree.specs.declared.Slot.{Slot}
 use Rattle.tree.proofs.TestLaws.{eq-cases}
 use Rattle.tree.proofs.Segments.{len-put, at-put, at-other}
 
+abbrev pub genOf : Slot → ℕ
+genOf s = s .generation
+
 pub len-change : (a : Slots) (i : ℕ) (f : Slot → Slot) → length (change a i f) ≡ length a
 unfolding change
 len-change a i f = len-put a i (f (at a i))
