@@ -9,3 +9,4 @@ pub mod SlotChanges
 pub mod LinkInserts
 pub mod FreeOrders
 pub mod LinkRemovals
+pub mod Generations
