@@ -10,3 +10,4 @@ pub mod LinkInserts
 pub mod FreeOrders
 pub mod LinkRemovals
 pub mod Generations
+pub mod Starts
