@@ -11,3 +11,4 @@ pub mod FreeOrders
 pub mod LinkRemovals
 pub mod Generations
 pub mod Starts
+pub mod Ids
