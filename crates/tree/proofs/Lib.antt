@@ -12,3 +12,4 @@ pub mod LinkRemovals
 pub mod Generations
 pub mod Starts
 pub mod Ids
+pub mod ChildLinks
