@@ -13,3 +13,4 @@ pub mod Generations
 pub mod Starts
 pub mod Ids
 pub mod ChildLinks
+pub mod RuleLaws
