@@ -4,3 +4,13 @@ pub mod ForestLaws
 pub mod Segments
 pub mod Relations
 pub mod Payloads
+pub mod Orders
+pub mod SlotChanges
+pub mod LinkInserts
+pub mod FreeOrders
+pub mod LinkRemovals
+pub mod Generations
+pub mod Starts
+pub mod Ids
+pub mod ChildLinks
+pub mod RuleLaws
