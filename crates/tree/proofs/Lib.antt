@@ -4,3 +4,6 @@ pub mod ForestLaws
 pub mod Segments
 pub mod Relations
 pub mod Payloads
+pub mod Orders
+pub mod Rounds
+pub mod WearLaws
