@@ -7,3 +7,5 @@ pub mod Payloads
 pub mod Orders
 pub mod Rounds
 pub mod WearLaws
+pub mod PassLaws
+pub mod HitLaws
