@@ -5,6 +5,13 @@ pub mod Segments
 pub mod Relations
 pub mod Payloads
 pub mod Orders
+pub mod SlotChanges
+pub mod LinkInserts
+pub mod FreeOrders
+pub mod LinkRemovals
+pub mod Generations
+pub mod Starts
+pub mod Ids
 pub mod Rounds
 pub mod WearLaws
 pub mod PassLaws

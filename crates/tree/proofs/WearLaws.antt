@@ -26,6 +26,7 @@ use Rattle.tree.specs.declared.StatePatch.{StatePatch}
 use Rattle.tree.proofs.TestLaws.{same-yes, same-refl, δ-refl, δ-same, eq-cases, zero-cases, bool-cases}
 use Rattle.tree.proofs.ForestLaws.{cnt}
 use Rattle.tree.proofs.Payloads.{AllF, all-map, all-both, all-mapF, all-at, any-cases}
+use Rattle.tree.proofs.Starts.{occ-after, occ-within}
 use Rattle.tree.proofs.Rounds.{Look, lookAt, stateOf, lookOf, Worn, worn-is-one-look, one-look-is-worn, Sized, a-layout-store-keeps, Stepped, Stepping, visit, Inside, or-true, or-false, Met, a-round-keeps-lengths, a-round-keeps-rects, a-slot-not-visited-stays, a-slot-visited-is-changed, a-round-is-a-change-of-every-node, a-pass-is-due-where-a-node-moved}
 
 -- ---- stores
@@ -271,31 +272,12 @@ bare-look x = refl
 
 -- ---- every number below n
 
-pub below-is-listed : (i n j : ℕ) → i ≤ j → j < i + n → occ j (fromTo i n) ≡ 1
-below-is-listed i zero j h b = absurd (omega arith)
-below-is-listed i (suc n) j h b =
-    eq-cases i j
-    (λ e _ d. let z = before-is-not-listed (suc i) n j (omega arith) in omega arith)
-    (λ e _ d. let z = below-is-listed (suc i) n j (go (decLt i j) e) (omega arith) in omega arith)
-  where
-    go : Dec (i < j) → i ≢ j → suc i ≤ j
-    go (yes p) e = omega arith
-    go (no p) e = absurd (e (omega arith))
-
-    before-is-not-listed : (i n j : ℕ) → j < i → occ j (fromTo i n) ≡ 0
-    before-is-not-listed i zero j h = refl
-    before-is-not-listed i (suc n) j h = eq-cases i j (λ e _ d. absurd (omega arith)) (λ e _ d. let z = before-is-not-listed (suc i) n j (omega arith) in omega arith)
-
-pub past-is-not-listed : (i n j : ℕ) → i + n ≤ j → occ j (fromTo i n) ≡ 0
-past-is-not-listed i zero j h = refl
-past-is-not-listed i (suc n) j h = eq-cases i j (λ e _ d. absurd (omega arith)) (λ e _ d. let z = past-is-not-listed (suc i) n j (omega arith) in omega arith)
-
 pub listed-is-below : (n j : ℕ) → 0 < occ j (fromTo 0 n) → j < n
 listed-is-below n j z = go (decLt j n)
   where
     go : Dec (j < n) → j < n
     go (yes p) = p
-    go (no p) = let q = past-is-not-listed 0 n j (omega arith) in absurd (omega arith)
+    go (no p) = let q = occ-after 0 n j (omega arith) in absurd (omega arith)
 
 pub all-slots-bare-is-every-node-bare : (k : Looks) (n : ℕ) (t : Forest Info) → n ≤ 128 → Sized k → ((j : ℕ) → 0 < cnt j t → j < n)
     → AllF (λ i g x. Worn (k .layout) (k .states) i x) t
@@ -307,7 +289,7 @@ all-slots-bare-is-every-node-bare k n t h o bl w fr =
     let q : ℕ → ℕ → Info → Bool = λ i g x. not (same (x .applied) noPatch) in
     let b : Inside is = λ j z. let p = listed-is-below n j z in omega arith in
     let m : AllF (Met bareStep is v q) t = all-map (λ i g x. Worn (k .layout) (k .states) i x) (Met bareStep is v q) t
-    (λ i g x c _. ((λ z. (bare-look x, refl)), (λ z. let y = bl i c in let p = below-is-listed 0 n i (omega arith) (omega arith) in absurd (omega arith)))) w in
+    (λ i g x c _. ((λ z. (bare-look x, refl)), (λ z. let y = bl i c in let p = occ-within 0 n i (omega arith) (omega arith) in absurd (omega arith)))) w in
     subst (λ (k′ : Looks). Redressed k k′ t (mapF v t) (anyF q t)) (sym (bare-all-is-a-round k is)) (record {
       sized = a-round-keeps-lengths bareStep k is b o;
       worn = a-round-is-a-change-of-every-node bareStep k is t v q b o w m;
