@@ -16,3 +16,4 @@ pub mod Rounds
 pub mod WearLaws
 pub mod PassLaws
 pub mod HitLaws
+pub mod RefreshLaws
