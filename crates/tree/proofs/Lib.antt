@@ -17,3 +17,4 @@ pub mod WearLaws
 pub mod PassLaws
 pub mod HitLaws
 pub mod RefreshLaws
+pub mod DressLaws

@@ -31,9 +31,9 @@ use Rattle.tree.proofs.Rounds.{Look, lookAt, stateOf, lookOf, Worn, wor
 
 -- ---- stores
 
-pub a-stored-state-is-there : (l : List StateSlot) (i : ℕ) (s : StateSlot) → i < length l → stateAt (set l i s) i ≡ s
+pub a-a-state-is-stored-is-there : (l : List StateSlot) (i : ℕ) (s : StateSlot) → i < length l → stateAt (set l i s) i ≡ s
 unfolding stateAt
-a-stored-state-is-there l i s h = getD-set-same l i s noState h
+a-a-state-is-stored-is-there l i s h = getD-set-same l i s noState h
 
 pub other-states-stay : (l : List StateSlot) (i j : ℕ) (s : StateSlot) → j ≢ i → stateAt (set l i s) j ≡ stateAt l j
 unfolding stateAt
@@ -48,14 +48,14 @@ unfolding layoutAt
 other-layouts-stay l i j s h = getD-set-other l i j s noLayout h
 
 -- a state stored, and its style with it or left alone
-stored-both : (change : Look → Look) (moves : Look → Bool) (k : Looks) (i : ℕ) (y : Style) (s : StateSlot) (dirty′ : Bool) → Sized k → i < 128
+pub a-state-and-a-style-are-stored : (change : Look → Look) (moves : Look → Bool) (k : Looks) (i : ℕ) (y : Style) (s : StateSlot) (dirty′ : Bool) → Sized k → i < 128
     → s ≡ change (lookAt k i) .state → y ≡ change (lookAt k i) .style → dirty′ ≡ (k .dirty || moves (lookAt k i))
     → Stepped change moves k i (record { layout = set (k .layout) i (withStyle (layoutAt (k .layout) i) y); states = set (k .states) i s; dirty = dirty′ })
-stored-both change moves k i y s dirty′ o b es ey ed =
+a-state-and-a-style-are-stored change moves k i y s dirty′ o b es ey ed =
     let o0 = o .0 in let o1 = o .1 in
     let nl : LayoutSlot = withStyle (layoutAt (k .layout) i) y in
     let el : layoutAt (set (k .layout) i nl) i .style ≡ y = ap (λ (z : LayoutSlot). z .style) (a-stored-layout-is-there (k .layout) i nl (omega arith)) in
-    let es′ : stateAt (set (k .states) i s) i ≡ s = a-stored-state-is-there (k .states) i s (omega arith) in
+    let es′ : stateAt (set (k .states) i s) i ≡ s = a-a-state-is-stored-is-there (k .states) i s (omega arith) in
     record {
       sized = (length-set (k .layout) i nl ∙ o0, length-set (k .states) i s ∙ o1);
       here = λ r. record { state = (es′ ∙ es) r; style = (el ∙ ey) r };
@@ -67,12 +67,12 @@ stored-both change moves k i y s dirty′ o b es ey ed =
       due = ed;
     }
 
-stored-state : (change : Look → Look) (moves : Look → Bool) (k : Looks) (i : ℕ) (s : StateSlot) (dirty′ : Bool) → Sized k → i < 128
+pub a-state-is-stored : (change : Look → Look) (moves : Look → Bool) (k : Looks) (i : ℕ) (s : StateSlot) (dirty′ : Bool) → Sized k → i < 128
     → s ≡ change (lookAt k i) .state → layoutAt (k .layout) i .style ≡ change (lookAt k i) .style → dirty′ ≡ (k .dirty || moves (lookAt k i))
     → Stepped change moves k i (record { layout = k .layout; states = set (k .states) i s; dirty = dirty′ })
-stored-state change moves k i s dirty′ o b es ey ed =
+a-state-is-stored change moves k i s dirty′ o b es ey ed =
     let o1 = o .1 in
-    let es′ : stateAt (set (k .states) i s) i ≡ s = a-stored-state-is-there (k .states) i s (omega arith) in
+    let es′ : stateAt (set (k .states) i s) i ≡ s = a-a-state-is-stored-is-there (k .states) i s (omega arith) in
     record {
       sized = (o .0, length-set (k .states) i s ∙ o1);
       here = λ r. record { state = (es′ ∙ es) r; style = ey r };
@@ -110,12 +110,12 @@ to-wear-changes-one-slot pool b k i o h =
     (record { layout = k .layout; states = set (k .states) i (wearing s next b); dirty = k .dirty })
     (record { layout = set (k .layout) i (withStyle (layoutAt (k .layout) i) (patchStyle pool next (s .base))); states = set (k .states) i (wearing s next b); dirty = k .dirty || (touches pool (s .applied) || touches pool next) })))
     (sym e)
-    (stored-state (wearLook pool b) (wearMoves pool b) k i (wearing s next b) (k .dirty) o h refl (rw e) (rw e (sym (or-false (k .dirty))))))
+    (a-state-is-stored (wearLook pool b) (wearMoves pool b) k i (wearing s next b) (k .dirty) o h refl (rw e) (rw e (sym (or-false (k .dirty))))))
     (λ e. subst (λ (c : Bool). Stepped (wearLook pool b) (wearMoves pool b) k i (pick c
     (record { layout = k .layout; states = set (k .states) i (wearing s next b); dirty = k .dirty })
     (record { layout = set (k .layout) i (withStyle (layoutAt (k .layout) i) (patchStyle pool next (s .base))); states = set (k .states) i (wearing s next b); dirty = k .dirty || (touches pool (s .applied) || touches pool next) })))
     (sym e)
-    (stored-both (wearLook pool b) (wearMoves pool b) k i (patchStyle pool next (s .base)) (wearing s next b) (k .dirty || (touches pool (s .applied) || touches pool next)) o h refl (rw e) (rw e)))
+    (a-state-and-a-style-are-stored (wearLook pool b) (wearMoves pool b) k i (patchStyle pool next (s .base)) (wearing s next b) (k .dirty || (touches pool (s .applied) || touches pool next)) o h refl (rw e) (rw e)))
 
 abbrev pub wearStep : List StatePatch → (ℕ → ℕ) → Stepping
 wearStep pool bits = record {
@@ -244,12 +244,12 @@ to-bare-changes-one-slot k i o h =
     (record { layout = k .layout; states = set (k .states) i (bareState (s .base)); dirty = k .dirty })
     (record { layout = set (k .layout) i (withStyle (layoutAt (k .layout) i) (s .base)); states = set (k .states) i (bareState (s .base)); dirty = true })))
     (sym e)
-    (stored-state bareLook bareMoves k i (bareState (s .base)) (k .dirty) o h refl (rw e) (rw e (sym (or-false (k .dirty))))))
+    (a-state-is-stored bareLook bareMoves k i (bareState (s .base)) (k .dirty) o h refl (rw e) (rw e (sym (or-false (k .dirty))))))
     (λ e. subst (λ (c : Bool). Stepped bareLook bareMoves k i (pick c
     (record { layout = k .layout; states = set (k .states) i (bareState (s .base)); dirty = k .dirty })
     (record { layout = set (k .layout) i (withStyle (layoutAt (k .layout) i) (s .base)); states = set (k .states) i (bareState (s .base)); dirty = true })))
     (sym e)
-    (stored-both bareLook bareMoves k i (s .base) (bareState (s .base)) true o h refl (rw e) (rw e (sym (or-true (k .dirty))))))
+    (a-state-and-a-style-are-stored bareLook bareMoves k i (s .base) (bareState (s .base)) true o h refl (rw e) (rw e (sym (or-true (k .dirty))))))
 
 abbrev pub bareStep : Stepping
 bareStep = record {
