@@ -83,10 +83,10 @@ one-slot-changed-is-one-node-changed {t = t} r d live change moves k k′ S w f 
 
 -- ---- a base style
 
-abbrev styleLook : Style → Look → Look
+abbrev pub styleLook : Style → Look → Look
 styleLook y e = record { state = based (e .state) y; style = pick (same (e .state .applied) noPatch) y (e .style) }
 
-style-step : (u : Ui) (i : ℕ) (y : Style) → Sized (looksOf u) → i < 128 → Stepped (styleLook y) (λ e. true) (looksOf u) i (looksOf (styledAt u i y))
+pub style-step : (u : Ui) (i : ℕ) (y : Style) → Sized (looksOf u) → i < 128 → Stepped (styleLook y) (λ e. true) (looksOf u) i (looksOf (styledAt u i y))
 unfolding styledAt withLooks
 style-step u i y o h =
     let s : StateSlot = stateAt (u .states) i in
@@ -104,6 +104,29 @@ restyled-look : (y : Style) (x : Info) → styleLook y (lookOf x) ≡ lookOf (re
 unfolding restyled
 restyled-look y x = refl
 
+-- ---- a table
+
+abbrev pub tableLook : List ℕ → Look → Look
+tableLook table e = record { state = tabled (e .state) table; style = e .style }
+
+pub table-step : (u : Ui) (i : ℕ) (table : List ℕ) → Sized (looksOf u) → i < 128
+    → Stepped (λ e. wearLook (poolOf u) (e .state .bits) (tableLook table e)) (λ e. wearMoves (poolOf u) (e .state .bits) (tableLook table e))
+    (looksOf u) i (looksOf (tabledAt u i table))
+unfolding tabledAt withLooks
+table-step u i table o h =
+    let s : StateSlot = stateAt (u .states) i in
+    let k1 : Looks = record { layout = u .layout; states = set (u .states) i (tabled s table); dirty = u .dirty } in
+    let S1 : Stepped (tableLook table) (λ e. false) (looksOf u) i k1 =
+    a-state-is-stored (tableLook table) (λ e. false) (looksOf u) i (tabled s table) (u .dirty) o h refl refl (sym (or-false (u .dirty))) in
+    let S2 = to-wear-changes-one-slot (poolOf u) (s .bits) k1 i (S1 .sized) h in
+    record {
+      sized = S2 .sized;
+      here = S2 .here ∙ ap (wearLook (poolOf u) (s .bits)) (S1 .here);
+      elsewhere = λ j e. S2 .elsewhere j e ∙ S1 .elsewhere j e;
+      rects = λ j. S2 .rects j;
+      due = S2 .due ∙ ap (λ (e : Look). u .dirty || wearMoves (poolOf u) (s .bits) e) (S1 .here);
+    }
+
 module _ {n : ℕ} {free : ℕ} {t : Forest Info} {fl : List ℕ} (u : Ui) (r : Rel n (u .slots) free t fl) (o : Sized (looksOf u))
     (w : AllF (λ i g x. Worn (u .layout) (u .states) i x) t) (d : NodeId) (live : hasId d t ≡ true) where
   in-array : d .index < 128
@@ -115,34 +138,11 @@ module _ {n : ℕ} {free : ℕ} {t : Forest Info} {fl : List ℕ} (u : Ui) (r : 
       one-slot-changed-is-one-node-changed r d live (styleLook y) (λ e. true) (looksOf u) (looksOf (styledAt u (d .index) y)) (style-step u (d .index) y o in-array) w
       (restyled y) (restyled-look y) (λ x. true) (λ x. refl)
 
-  -- ---- a table
-
-  abbrev tableLook : List ℕ → Look → Look
-  tableLook table e = record { state = tabled (e .state) table; style = e .style }
-
-  table-step : (i : ℕ) (table : List ℕ) → i < 128
-      → Stepped (λ e. wearLook (poolOf u) (e .state .bits) (record { state = tabled (e .state) table; style = e .style })) (λ e. wearMoves (poolOf u) (e .state .bits) (record { state = tabled (e .state) table; style = e .style }))
-      (looksOf u) i (looksOf (tabledAt u i table))
-  unfolding tabledAt withLooks
-  table-step i table h =
-      let s : StateSlot = stateAt (u .states) i in
-      let k1 : Looks = record { layout = u .layout; states = set (u .states) i (tabled s table); dirty = u .dirty } in
-      let S1 : Stepped (tableLook table) (λ e. false) (looksOf u) i k1 =
-      a-state-is-stored (tableLook table) (λ e. false) (looksOf u) i (tabled s table) (u .dirty) o h refl refl (sym (or-false (u .dirty))) in
-      let S2 = to-wear-changes-one-slot (poolOf u) (s .bits) k1 i (S1 .sized) h in
-      record {
-        sized = S2 .sized;
-        here = S2 .here ∙ ap (wearLook (poolOf u) (s .bits)) (S1 .here);
-        elsewhere = λ j e. S2 .elsewhere j e ∙ S1 .elsewhere j e;
-        rects = λ j. S2 .rects j;
-        due = S2 .due ∙ ap (λ (e : Look). u .dirty || wearMoves (poolOf u) (s .bits) e) (S1 .here);
-      }
-
-  tabled-look : (table : List ℕ) (x : Info) → wearLook (poolOf u) (x .bits) (record { state = tabled (lookOf x .state) table; style = x .style }) ≡ lookOf (wears (poolOf u) (x .bits) (withTable table x))
+  tabled-look : (table : List ℕ) (x : Info) → wearLook (poolOf u) (x .bits) (tableLook table (lookOf x)) ≡ lookOf (wears (poolOf u) (x .bits) (withTable table x))
   unfolding wears
   tabled-look table x = refl
 
-  tabled-moves : (table : List ℕ) (x : Info) → wearMoves (poolOf u) (x .bits) (record { state = tabled (lookOf x .state) table; style = x .style }) ≡ swaps (poolOf u) (x .bits) (withTable table x)
+  tabled-moves : (table : List ℕ) (x : Info) → wearMoves (poolOf u) (x .bits) (tableLook table (lookOf x)) ≡ swaps (poolOf u) (x .bits) (withTable table x)
   unfolding swaps
   tabled-moves table x = refl
 
@@ -151,8 +151,8 @@ module _ {n : ℕ} {free : ℕ} {t : Forest Info} {fl : List ℕ} (u : Ui) (r : 
       (anyF (λ i g x. hasBoth d i g && swaps (poolOf u) (x .bits) (withTable table x)) t)
   a-tabled-slot-is-a-node-that-wears-a-table table =
       one-slot-changed-is-one-node-changed r d live
-      (λ e. wearLook (poolOf u) (e .state .bits) (record { state = tabled (e .state) table; style = e .style })) (λ e. wearMoves (poolOf u) (e .state .bits) (record { state = tabled (e .state) table; style = e .style }))
-      (looksOf u) (looksOf (tabledAt u (d .index) table)) (table-step (d .index) table in-array) w
+      (λ e. wearLook (poolOf u) (e .state .bits) (tableLook table e)) (λ e. wearMoves (poolOf u) (e .state .bits) (tableLook table e))
+      (looksOf u) (looksOf (tabledAt u (d .index) table)) (table-step u (d .index) table o in-array) w
       (λ x. wears (poolOf u) (x .bits) (withTable table x)) (tabled-look table) (λ x. swaps (poolOf u) (x .bits) (withTable table x)) (tabled-moves table)
 
 pub a-styled-slot-makes-a-pass-due : (u : Ui) (i : ℕ) (y : Style) → styledAt u i y .dirty ≡ true

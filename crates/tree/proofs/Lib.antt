@@ -18,3 +18,4 @@ pub mod PassLaws
 pub mod HitLaws
 pub mod RefreshLaws
 pub mod DressLaws
+pub mod WellLaws

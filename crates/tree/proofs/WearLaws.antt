@@ -127,7 +127,7 @@ wearStep pool bits = record {
   law = λ k i. to-wear-changes-one-slot pool (bits i) k i;
 }
 
-wear-all-is-a-round : (u : Ui) (hover : MaybeId) (k : Looks) (is : List ℕ) → wearAll u hover k is ≡ visit (wearStep (poolOf u) (bitsAt u hover)) k is
+pub wear-all-is-a-round : (u : Ui) (hover : MaybeId) (k : Looks) (is : List ℕ) → wearAll u hover k is ≡ visit (wearStep (poolOf u) (bitsAt u hover)) k is
 unfolding wearAll
 wear-all-is-a-round u hover k [] = refl
 wear-all-is-a-round u hover k (i ∷ is) = wear-all-is-a-round u hover (wear (poolOf u) k i (bitsAt u hover i)) is
@@ -261,7 +261,7 @@ bareStep = record {
   law = to-bare-changes-one-slot;
 }
 
-bare-all-is-a-round : (k : Looks) (is : List ℕ) → bareAll k is ≡ visit bareStep k is
+pub bare-all-is-a-round : (k : Looks) (is : List ℕ) → bareAll k is ≡ visit bareStep k is
 unfolding bareAll
 bare-all-is-a-round k [] = refl
 bare-all-is-a-round k (i ∷ is) = bare-all-is-a-round (bared k i) is
