@@ -187,6 +187,9 @@ module _ {X : Type 0} {n : ℕ} {s : Slots} {free : ℕ} {t : Forest X} {fl : Li
   pub root-is-live : cnt 0 t ≡ 1
   root-is-live = let d = δ-refl 0 in let h = r .root 0 in let q = top-le-cnt 0 t in let o = once r 0 in omega arith
 
+  pub limit-is-positive : 1 ≤ n
+  limit-is-positive = let c = root-is-live in let h = below r 0 (omega arith) in omega arith
+
 module _ {X : Type 0} where
   -- either no slot is free, or the head is the first free one
   pub free-cases {ℓ} : {G : Type ℓ} (n : ℕ) (s : Slots) (free : ℕ) (t : Forest X) (fl : List ℕ) → Rel n s free t fl

@@ -12,6 +12,8 @@ pub mod LinkRemovals
 pub mod Generations
 pub mod Starts
 pub mod Ids
+pub mod ChildLinks
+pub mod RuleLaws
 pub mod Rounds
 pub mod WearLaws
 pub mod PassLaws

@@ -48,7 +48,7 @@ linked a p i l v hp hi hl n1 n2 n3 =
       atP = simp (at-change, change-other, s);
       atI = simp (at-change, change-other);
       atL = λ q. simp (at-change, change-other);
-      rest = λ j j1 j2 j3. simp (at-change, change-other);
+      rest = λ j j1 j2 j3. simp change-other;
     })
 
 pub linking-keeps-generations : (a : Slots) (p i l j : ℕ) → at (linkAfter a p i l) j .generation ≡ at a j .generation

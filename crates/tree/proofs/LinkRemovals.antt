@@ -37,7 +37,7 @@ unlinked a p pv nx hp hpv hnx n1 n2 n3 =
     rw (s, s′) record { long = simp len-change; atP = simp (at-change, s, s′); atPv = λ q. absurd (q e); atNx = λ q. absurd (q e′); rest = λ j j1 j2 j3. simp change-other })
     (λ e′ s′ d′.
     let hn : nx < length (change a p (setFirst nx)) = rw len-change (hnx e′) in
-    rw (s, s′) record { long = simp len-change; atP = simp (change-other, at-change, s, s′); atPv = λ q. absurd (q e); atNx = λ q. simp (change-other, at-change); rest = λ j j1 j2 j3. simp change-other }))
+    rw (s, s′) record { long = simp len-change; atP = simp (at-change, change-other, s, s′); atPv = λ q. absurd (q e); atNx = λ q. simp (at-change, change-other); rest = λ j j1 j2 j3. simp change-other }))
     (λ e s d. eq-cases nx NIL
     (λ e′ s′ d′.
     let hp′ : p < length (change a pv (setNext nx)) = rw len-change hp in
@@ -48,7 +48,7 @@ unlinked a p pv nx hp hpv hnx n1 n2 n3 =
     let hn : nx < length (change a pv (setNext nx)) = rw len-change (hnx e′) in
     let m : pv ≢ nx = n3 e in
     let m′ : nx ≢ pv = λ q. m (sym q) in
-    rw (s, s′) record { long = simp len-change; atP = simp (change-other, at-change, s, s′); atPv = λ q. simp (change-other, at-change); atNx = λ q. simp (change-other, at-change); rest = λ j j1 j2 j3. simp change-other }))
+    rw (s, s′) record { long = simp len-change; atP = simp (change-other, s, s′); atPv = λ q. simp (change-other, at-change); atNx = λ q. simp (change-other, at-change); rest = λ j j1 j2 j3. simp change-other }))
 
 pub unlinking-keeps-generations : (a : Slots) (p pv nx j : ℕ) → at (unlinkFrom a p pv nx) j .generation ≡ at a j .generation
 unfolding unlinkFrom

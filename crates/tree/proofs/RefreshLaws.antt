@@ -186,6 +186,14 @@ module _ (u : Ui) (hover : MaybeId) where
       (λ z2. slot-in-below u (u .interaction .pressed) j z2))
       (λ z1. slot-in-below u hover j z1)
 
+  occ-visited : (j : ℕ) → occ j (backwards (statedOf u) ++ three u hover) ≡ occ j (statedOf u) + occ j (three u hover)
+  occ-visited j = let e = occ-append j (backwards (statedOf u)) (three u hover) in let b = occ-backwards j (statedOf u) in omega arith
+
+  pub the-slots-of-a-refresh-are-below-the-limit : ((j : ℕ) → 0 < occ j (statedOf u) → j < limitOf u) → (j : ℕ) → 0 < occ j (backwards (statedOf u) ++ three u hover) → j < limitOf u
+  the-slots-of-a-refresh-are-below-the-limit sb j z =
+      let e = occ-visited j in
+      zero-cases (occ j (statedOf u)) (λ y. the-three-are-below-the-limit j (omega arith)) (λ y. sb j y)
+
   three-at-most : length (three u hover) ≤ 3
   three-at-most =
       let e1 = length-append (slotIn u hover ++ slotIn u (u .interaction .pressed)) (slotIn u (u .interaction .focus)) in
@@ -220,10 +228,8 @@ unfolding refreshed withStated withLooks wears
 a-refresh-is-every-node-wearing-its-bits {t = t} u hover bits r o len w tw st sb fr be bz =
     let is : List ℕ = backwards (statedOf u) ++ three u hover in
     let small = r .small in
-    let oi : (j : ℕ) → occ j is ≡ occ j (statedOf u) + occ j (three u hover) = λ j.
-    let e = occ-append j (backwards (statedOf u)) (three u hover) in let b = occ-backwards j (statedOf u) in omega arith in
-    let lim : (j : ℕ) → 0 < occ j is → j < limitOf u = λ j z. let e = oi j in
-    zero-cases (occ j (statedOf u)) (λ y. the-three-are-below-the-limit u hover j (omega arith)) (λ y. sb j y) in
+    let oi = occ-visited u hover in
+    let lim : (j : ℕ) → 0 < occ j is → j < limitOf u = the-slots-of-a-refresh-are-below-the-limit u hover sb in
     let borne : List ℕ = bearing u hover [] (three u hover) in
     let alive : (i : ℕ) → 0 < cnt i t → isLive (limitOf u) (u .slots) (idAt (u .slots) i) ≡ true = λ i c.
     live-just-where-a-node-has-it r (idAt (u .slots) i) ∙ slots-id-is-live r i c in

@@ -26,7 +26,8 @@ use Rattle.tree.specs.declared.StatePatch.{StatePatch}
 use Rattle.tree.proofs.TestLaws.{same-yes, same-refl, δ-refl, δ-same, eq-cases, zero-cases, bool-cases}
 use Rattle.tree.proofs.ForestLaws.{cnt}
 use Rattle.tree.proofs.Payloads.{AllF, all-map, all-both, all-mapF, all-at, any-cases}
-use Rattle.tree.proofs.Starts.{occ-after, occ-within}
+use Rattle.tree.proofs.Starts.{occ-within}
+use Rattle.tree.proofs.RuleLaws.{occurs-below}
 use Rattle.tree.proofs.Rounds.{Look, lookAt, stateOf, lookOf, Worn, worn-is-one-look, one-look-is-worn, Sized, a-layout-store-keeps, Stepped, Stepping, visit, Inside, or-true, or-false, Met, a-round-keeps-lengths, a-round-keeps-rects, a-slot-not-visited-stays, a-slot-visited-is-changed, a-round-is-a-change-of-every-node, a-pass-is-due-where-a-node-moved}
 
 -- ---- stores
@@ -270,15 +271,6 @@ bare-look : (x : Info) → bareLook (lookOf x) ≡ lookOf (bare x)
 unfolding bare
 bare-look x = refl
 
--- ---- every number below n
-
-pub listed-is-below : (n j : ℕ) → 0 < occ j (fromTo 0 n) → j < n
-listed-is-below n j z = go (decLt j n)
-  where
-    go : Dec (j < n) → j < n
-    go (yes p) = p
-    go (no p) = let q = occ-after 0 n j (omega arith) in absurd (omega arith)
-
 pub all-slots-bare-is-every-node-bare : (k : Looks) (n : ℕ) (t : Forest Info) → n ≤ 128 → Sized k → ((j : ℕ) → 0 < cnt j t → j < n)
     → AllF (λ i g x. Worn (k .layout) (k .states) i x) t
     → ((j : ℕ) → j < n → cnt j t ≡ 0 → stateAt (k .states) j ≡ freshState)
@@ -287,18 +279,18 @@ all-slots-bare-is-every-node-bare k n t h o bl w fr =
     let is : List ℕ = fromTo 0 n in
     let v : ℕ → ℕ → Info → Info = λ i g x. bare x in
     let q : ℕ → ℕ → Info → Bool = λ i g x. not (same (x .applied) noPatch) in
-    let b : Inside is = λ j z. let p = listed-is-below n j z in omega arith in
+    let b : Inside is = λ j z. let p = occurs-below n j z in omega arith in
     let m : AllF (Met bareStep is v q) t = all-map (λ i g x. Worn (k .layout) (k .states) i x) (Met bareStep is v q) t
     (λ i g x c _. ((λ z. (bare-look x, refl)), (λ z. let y = bl i c in let p = occ-within 0 n i (omega arith) (omega arith) in absurd (omega arith)))) w in
     subst (λ (k′ : Looks). Redressed k k′ t (mapF v t) (anyF q t)) (sym (bare-all-is-a-round k is)) (record {
       sized = a-round-keeps-lengths bareStep k is b o;
       worn = a-round-is-a-change-of-every-node bareStep k is t v q b o w m;
       due = a-pass-is-due-where-a-node-moved bareStep k is t v q b o w m
-          (λ j z c. ap (λ (s : StateSlot). not (same (s .applied) noPatch)) (fr j (listed-is-below n j z) c) ∙ rw (same-refl noPatch));
+          (λ j z c. ap (λ (s : StateSlot). not (same (s .applied) noPatch)) (fr j (occurs-below n j z) c) ∙ rw (same-refl noPatch));
       rects = a-round-keeps-rects bareStep k is b o;
       dead = λ j c. zero-cases (occ j is)
           (λ z. ap (λ (e : Look). e .state) (a-slot-not-visited-stays bareStep k is b o j z))
-          (λ z. let f = fr j (listed-is-below n j z) c in
+          (λ z. let f = fr j (occurs-below n j z) c in
           ap (λ (e : Look). e .state) (a-slot-visited-is-changed bareStep k is b o j z) ∙ ap (λ (s : StateSlot). bareState (s .base)) f ∙ sym f);
     })
 

@@ -23,8 +23,10 @@ use Rattle.tree.specs.declared.StatePatch.{StatePatch}
 use Rattle.tree.proofs.TestLaws.{same-refl, eq-cases, zero-cases, bool-cases}
 use Rattle.tree.proofs.FreeOrders.{occ-append}
 use Rattle.tree.proofs.Starts.{occ-within}
+use Rattle.tree.proofs.RuleLaws.{both-true, occurs-below}
 use Rattle.tree.proofs.Rounds.{Look, lookAt, Sized, Stepped, Stepping, visit, Inside, a-slot-not-visited-stays, a-slot-visited-is-changed}
-use Rattle.tree.proofs.WearLaws.{wearStep, bareStep, listed-is-below, wear-all-is-a-round, bare-all-is-a-round}
+use Rattle.tree.proofs.WearLaws.{wearStep, bareStep, wear-all-is-a-round, bare-all-is-a-round}
+use Rattle.tree.proofs.RefreshLaws.{three, the-slots-of-a-refresh-are-below-the-limit}
 use Rattle.tree.proofs.DressLaws.{style-step, table-step}
 
 -- ---- tests of two parts, and of all of a list's front
@@ -37,9 +39,6 @@ pub right-holds : (a b : Bool) → (a && b) ≡ true → b ≡ true
 right-holds true b e = e
 right-holds false b e = let z : _≡_ {A = ℕ} 0 1 = cc in absurd (omega arith)
 
-pub both-hold : (a b : Bool) → a ≡ true → b ≡ true → (a && b) ≡ true
-both-hold a b p q = rw (p, q)
-
 pub each-of-a-front-passes : {A : Type 0} (p : A → Bool) (d : A) (n : ℕ) (l : List A) → all p (take n l) ≡ true → (j : ℕ) → j < n → j < length l → p (getD l j d) ≡ true
 each-of-a-front-passes p d zero l e j h b = absurd (omega arith)
 each-of-a-front-passes p d (suc n) [] e j h b = absurd (omega arith)
@@ -50,7 +49,7 @@ pub a-front-passes-if-each-does : {A : Type 0} (p : A → Bool) (d : A) (n : ℕ
 a-front-passes-if-each-does p d zero l h q = refl
 a-front-passes-if-each-does p d (suc n) [] h q = absurd (omega arith)
 a-front-passes-if-each-does p d (suc n) (x ∷ xs) h q =
-    both-hold (p x) (all p (take n xs)) (q 0 (omega arith)) (a-front-passes-if-each-does p d n xs (omega arith) (λ j b. q (suc j) (omega arith)))
+    both-true (p x) (all p (take n xs)) (q 0 (omega arith)) (a-front-passes-if-each-does p d n xs (omega arith) (λ j b. q (suc j) (omega arith)))
 
 -- every state slot below n keeps to the rules
 abbrev pub StatesWell : ℕ → ℕ → List StateSlot → Type 0
@@ -94,24 +93,24 @@ pub a-slot-that-wears-is-well : (count : ℕ) (s : StateSlot) (b : ℕ) → b �
 unfolding stateWell entryOf
 a-slot-that-wears-is-well count s b h e =
     let t : all (inPool count) (s .table) ≡ true = left-holds (all (inPool count) (s .table)) (leb (s .bits) 7) (right-holds (inPool count (s .applied)) (all (inPool count) (s .table) && leb (s .bits) 7) e) in
-    both-hold (inPool count (getD (s .table) (b % 16) noPatch)) (all (inPool count) (s .table) && leb b 7) (entry-in-pool count (s .table) (b % 16) t)
-    (both-hold (all (inPool count) (s .table)) (leb b 7) t (le-leb b 7 h))
+    both-true (inPool count (getD (s .table) (b % 16) noPatch)) (all (inPool count) (s .table) && leb b 7) (entry-in-pool count (s .table) (b % 16) t)
+    (both-true (all (inPool count) (s .table)) (leb b 7) t (le-leb b 7 h))
 
 pub a-bare-slot-is-well : (count : ℕ) (base : Style) → stateWell count (bareState base) ≡ true
 unfolding stateWell
 a-bare-slot-is-well count base =
-    both-hold (inPool count noPatch) (all (inPool count) freshTable && leb 0 7) (no-patch-is-in-every-pool count)
-    (both-hold (all (inPool count) freshTable) (leb 0 7) (go 16) refl)
+    both-true (inPool count noPatch) (all (inPool count) freshTable && leb 0 7) (no-patch-is-in-every-pool count)
+    (both-true (all (inPool count) freshTable) (leb 0 7) (go 16) refl)
   where
     go : (n : ℕ) → all (inPool count) (replicate n noPatch) ≡ true
     go zero = refl
-    go (suc n) = both-hold (inPool count noPatch) (all (inPool count) (replicate n noPatch)) (no-patch-is-in-every-pool count) (go n)
+    go (suc n) = both-true (inPool count noPatch) (all (inPool count) (replicate n noPatch)) (no-patch-is-in-every-pool count) (go n)
 
 pub a-tabled-slot-is-well : (count : ℕ) (s : StateSlot) (table : List ℕ) → all (inPool count) table ≡ true → stateWell count s ≡ true → stateWell count (tabled s table) ≡ true
 unfolding stateWell
 a-tabled-slot-is-well count s table t e =
-    both-hold (inPool count (s .applied)) (all (inPool count) table && leb (s .bits) 7) (left-holds (inPool count (s .applied)) (all (inPool count) (s .table) && leb (s .bits) 7) e)
-    (both-hold (all (inPool count) table) (leb (s .bits) 7) t
+    both-true (inPool count (s .applied)) (all (inPool count) table && leb (s .bits) 7) (left-holds (inPool count (s .applied)) (all (inPool count) (s .table) && leb (s .bits) 7) e)
+    (both-true (all (inPool count) table) (leb (s .bits) 7) t
     (right-holds (all (inPool count) (s .table)) (leb (s .bits) 7) (right-holds (inPool count (s .applied)) (all (inPool count) (s .table) && leb (s .bits) 7) e)))
 
 pub a-based-slot-is-well : (count : ℕ) (s : StateSlot) (base : Style) → stateWell count s ≡ true → stateWell count (based s base) ≡ true
@@ -133,13 +132,20 @@ slots-that-wear-are-well count n u hover k is b o w j h =
     (λ z. ap (λ (e : Look). stateWell count (e .state)) (a-slot-not-visited-stays S k is b o j z) ∙ w j h)
     (λ z. ap (λ (e : Look). stateWell count (e .state)) (a-slot-visited-is-changed S k is b o j z) ∙ a-slot-that-wears-is-well count (stateAt (k .states) j) (bitsAt u hover j) (bits-are-7-at-most u hover j) (w j h)))
 
+pub a-refreshed-tree-is-well : (count n : ℕ) (u : Ui) (hover : MaybeId) → limitOf u ≤ 128 → Sized (looksOf u) → ((j : ℕ) → 0 < occ j (statedOf u) → j < limitOf u)
+    → StatesWell count n (u .states) → StatesWell count n (refreshed u hover .states)
+unfolding refreshed withStated withLooks
+a-refreshed-tree-is-well count n u hover m o sb w =
+    slots-that-wear-are-well count n u hover (looksOf u) (backwards (statedOf u) ++ three u hover)
+    (λ j z. let h = the-slots-of-a-refresh-are-below-the-limit u hover sb j z in omega arith) o w
+
 -- whatever the pool is
 pub bare-slots-are-well : (count n : ℕ) (k : Looks) → n ≤ 128 → Sized k → StatesWell count n (bareAll k (fromTo 0 n) .states)
 bare-slots-are-well count n k m o j h =
     let is : List ℕ = fromTo 0 n in
     let q = occ-within 0 n j (omega arith) (omega arith) in
     subst (λ (k′ : Looks). stateWell count (stateAt (k′ .states) j) ≡ true) (sym (bare-all-is-a-round k is))
-    (ap (λ (e : Look). stateWell count (e .state)) (a-slot-visited-is-changed bareStep k is (λ i z. let b = listed-is-below n i z in omega arith) o j (omega arith))
+    (ap (λ (e : Look). stateWell count (e .state)) (a-slot-visited-is-changed bareStep k is (λ i z. let b = occurs-below n i z in omega arith) o j (omega arith))
     ∙ a-bare-slot-is-well count (stateAt (k .states) j .base))
 
 one-slot-well : (count n : ℕ) (change : Look → Look) (moves : Look → Bool) (k k′ : Looks) (i : ℕ) → Stepped change moves k i k′ → ((e : Look) → stateWell count (e .state) ≡ true → stateWell count (change e .state) ≡ true)
