@@ -14,3 +14,10 @@ pub mod Starts
 pub mod Ids
 pub mod ChildLinks
 pub mod RuleLaws
+pub mod Rounds
+pub mod WearLaws
+pub mod PassLaws
+pub mod HitLaws
+pub mod RefreshLaws
+pub mod DressLaws
+pub mod WellLaws

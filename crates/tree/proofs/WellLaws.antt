@@ -1,0 +1,166 @@
+-- What slots wear keeps to the rules: a table's entries are in the pool, so that what is worn of it is, and three bits make at most 7.
+-- Assumes nothing.
+use mathlib.Core.Path.{_≡_, refl, sym, ap, _∙_, subst}
+use mathlib.Core.Logic.{_≢_}
+use mathlib.Core.Bool.{Bool, true, false, not, _||_, _&&_}
+use mathlib.Core.List.{List, [], _∷_, _++_}
+use Prim.Native.Nat.{ℕ, zero, suc, _+_, _%_, _≤_, _<_}
+use native.Mathlib.Omega.{arith}
+use borrow.Author.Tests.{leb-true, le-leb}
+use lib.Dec.{ltb, leb}
+use lib.ListN.{length, getD, take, set, replicate}
+use Rattle.field.specs.declared.NodeId.{NodeId}
+use Rattle.field.specs.declared.MaybeId.{MaybeId}
+use Rattle.tree.specs.Tests.{pick, same, occ, all, fromTo}
+use Rattle.tree.specs.Styles.{noPatch, noState, freshTable, freshState, bareState, layoutAt, stateAt}
+use Rattle.tree.specs.Trees.{limitOf, poolOf, statedOf, withLooks, withStated}
+use Rattle.tree.specs.States.{Looks, looksOf, entryOf, inPool, wearing, wearAll, isId, bitsOf, bitsAt, based, tabled, styledAt, tabledAt, bared, bareAll, refreshed, backwards}
+use Rattle.tree.specs.Rules.{stateWell}
+use Rattle.tree.specs.declared.Ui.{Ui}
+use Rattle.tree.specs.declared.Style.{Style}
+use Rattle.tree.specs.declared.StateSlot.{StateSlot}
+use Rattle.tree.specs.declared.StatePatch.{StatePatch}
+use Rattle.tree.proofs.TestLaws.{same-refl, eq-cases, zero-cases, bool-cases}
+use Rattle.tree.proofs.FreeOrders.{occ-append}
+use Rattle.tree.proofs.Starts.{occ-within}
+use Rattle.tree.proofs.RuleLaws.{both-true, occurs-below}
+use Rattle.tree.proofs.Rounds.{Look, lookAt, Sized, Stepped, Stepping, visit, Inside, a-slot-not-visited-stays, a-slot-visited-is-changed}
+use Rattle.tree.proofs.WearLaws.{wearStep, bareStep, wear-all-is-a-round, bare-all-is-a-round}
+use Rattle.tree.proofs.RefreshLaws.{three, the-slots-of-a-refresh-are-below-the-limit}
+use Rattle.tree.proofs.DressLaws.{style-step, table-step}
+
+-- ---- tests of two parts, and of all of a list's front
+
+pub left-holds : (a b : Bool) → (a && b) ≡ true → a ≡ true
+left-holds true b e = refl
+left-holds false b e = e
+
+pub right-holds : (a b : Bool) → (a && b) ≡ true → b ≡ true
+right-holds true b e = e
+right-holds false b e = let z : _≡_ {A = ℕ} 0 1 = cc in absurd (omega arith)
+
+pub each-of-a-front-passes : {A : Type 0} (p : A → Bool) (d : A) (n : ℕ) (l : List A) → all p (take n l) ≡ true → (j : ℕ) → j < n → j < length l → p (getD l j d) ≡ true
+each-of-a-front-passes p d zero l e j h b = absurd (omega arith)
+each-of-a-front-passes p d (suc n) [] e j h b = absurd (omega arith)
+each-of-a-front-passes p d (suc n) (x ∷ xs) e zero h b = left-holds (p x) (all p (take n xs)) e
+each-of-a-front-passes p d (suc n) (x ∷ xs) e (suc j) h b = each-of-a-front-passes p d n xs (right-holds (p x) (all p (take n xs)) e) j (omega arith) (omega arith)
+
+pub a-front-passes-if-each-does : {A : Type 0} (p : A → Bool) (d : A) (n : ℕ) (l : List A) → n ≤ length l → ((j : ℕ) → j < n → p (getD l j d) ≡ true) → all p (take n l) ≡ true
+a-front-passes-if-each-does p d zero l h q = refl
+a-front-passes-if-each-does p d (suc n) [] h q = absurd (omega arith)
+a-front-passes-if-each-does p d (suc n) (x ∷ xs) h q =
+    both-true (p x) (all p (take n xs)) (q 0 (omega arith)) (a-front-passes-if-each-does p d n xs (omega arith) (λ j b. q (suc j) (omega arith)))
+
+-- every state slot below n keeps to the rules
+abbrev pub StatesWell : ℕ → ℕ → List StateSlot → Type 0
+StatesWell count n l = (j : ℕ) → j < n → stateWell count (stateAt l j) ≡ true
+
+pub states-well-by-slot : (count n : ℕ) (l : List StateSlot) → n ≤ length l → all (stateWell count) (take n l) ≡ true → StatesWell count n l
+unfolding stateAt
+states-well-by-slot count n l h e j b = each-of-a-front-passes (stateWell count) noState n l e j b (omega arith)
+
+pub states-well-together : (count n : ℕ) (l : List StateSlot) → n ≤ length l → StatesWell count n l → all (stateWell count) (take n l) ≡ true
+unfolding stateAt
+states-well-together count n l h e = a-front-passes-if-each-does (stateWell count) noState n l h e
+
+-- ---- one slot
+
+no-patch-is-in-every-pool : (count : ℕ) → inPool count noPatch ≡ true
+unfolding inPool
+no-patch-is-in-every-pool count = rw (same-refl noPatch)
+
+entry-in-pool : (count : ℕ) (table : List ℕ) (i : ℕ) → all (inPool count) table ≡ true → inPool count (getD table i noPatch) ≡ true
+entry-in-pool count [] i e = no-patch-is-in-every-pool count
+entry-in-pool count (k ∷ ks) zero e = left-holds (inPool count k) (all (inPool count) ks) e
+entry-in-pool count (k ∷ ks) (suc i) e = entry-in-pool count ks i (right-holds (inPool count k) (all (inPool count) ks) e)
+
+three-bits-make-7-at-most : (a b c : Bool) → bitsOf a b c ≤ 7
+unfolding bitsOf
+three-bits-make-7-at-most true true true = omega arith
+three-bits-make-7-at-most true true false = omega arith
+three-bits-make-7-at-most true false true = omega arith
+three-bits-make-7-at-most true false false = omega arith
+three-bits-make-7-at-most false true true = omega arith
+three-bits-make-7-at-most false true false = omega arith
+three-bits-make-7-at-most false false true = omega arith
+three-bits-make-7-at-most false false false = omega arith
+
+pub bits-are-7-at-most : (u : Ui) (hover : MaybeId) (i : ℕ) → bitsAt u hover i ≤ 7
+unfolding bitsAt
+bits-are-7-at-most u hover i = three-bits-make-7-at-most _ _ _
+
+pub a-slot-that-wears-is-well : (count : ℕ) (s : StateSlot) (b : ℕ) → b ≤ 7 → stateWell count s ≡ true → stateWell count (wearing s (entryOf (s .table) b) b) ≡ true
+unfolding stateWell entryOf
+a-slot-that-wears-is-well count s b h e =
+    let t : all (inPool count) (s .table) ≡ true = left-holds (all (inPool count) (s .table)) (leb (s .bits) 7) (right-holds (inPool count (s .applied)) (all (inPool count) (s .table) && leb (s .bits) 7) e) in
+    both-true (inPool count (getD (s .table) (b % 16) noPatch)) (all (inPool count) (s .table) && leb b 7) (entry-in-pool count (s .table) (b % 16) t)
+    (both-true (all (inPool count) (s .table)) (leb b 7) t (le-leb b 7 h))
+
+pub a-bare-slot-is-well : (count : ℕ) (base : Style) → stateWell count (bareState base) ≡ true
+unfolding stateWell
+a-bare-slot-is-well count base =
+    both-true (inPool count noPatch) (all (inPool count) freshTable && leb 0 7) (no-patch-is-in-every-pool count)
+    (both-true (all (inPool count) freshTable) (leb 0 7) (go 16) refl)
+  where
+    go : (n : ℕ) → all (inPool count) (replicate n noPatch) ≡ true
+    go zero = refl
+    go (suc n) = both-true (inPool count noPatch) (all (inPool count) (replicate n noPatch)) (no-patch-is-in-every-pool count) (go n)
+
+pub a-tabled-slot-is-well : (count : ℕ) (s : StateSlot) (table : List ℕ) → all (inPool count) table ≡ true → stateWell count s ≡ true → stateWell count (tabled s table) ≡ true
+unfolding stateWell
+a-tabled-slot-is-well count s table t e =
+    both-true (inPool count (s .applied)) (all (inPool count) table && leb (s .bits) 7) (left-holds (inPool count (s .applied)) (all (inPool count) (s .table) && leb (s .bits) 7) e)
+    (both-true (all (inPool count) table) (leb (s .bits) 7) t
+    (right-holds (all (inPool count) (s .table)) (leb (s .bits) 7) (right-holds (inPool count (s .applied)) (all (inPool count) (s .table) && leb (s .bits) 7) e)))
+
+pub a-based-slot-is-well : (count : ℕ) (s : StateSlot) (base : Style) → stateWell count s ≡ true → stateWell count (based s base) ≡ true
+unfolding stateWell
+a-based-slot-is-well count s base e = e
+
+bits-of-a-well-slot : (count : ℕ) (s : StateSlot) → stateWell count s ≡ true → s .bits ≤ 7
+unfolding stateWell
+bits-of-a-well-slot count s e =
+    leb-true (s .bits) 7 (right-holds (all (inPool count) (s .table)) (leb (s .bits) 7) (right-holds (inPool count (s .applied)) (all (inPool count) (s .table) && leb (s .bits) 7) e))
+
+-- ---- all slots
+
+pub slots-that-wear-are-well : (count n : ℕ) (u : Ui) (hover : MaybeId) (k : Looks) (is : List ℕ) → Inside is → Sized k → StatesWell count n (k .states) → StatesWell count n (wearAll u hover k is .states)
+slots-that-wear-are-well count n u hover k is b o w j h =
+    let S : Stepping = wearStep (poolOf u) (bitsAt u hover) in
+    subst (λ (k′ : Looks). stateWell count (stateAt (k′ .states) j) ≡ true) (sym (wear-all-is-a-round u hover k is))
+    (zero-cases (occ j is)
+    (λ z. ap (λ (e : Look). stateWell count (e .state)) (a-slot-not-visited-stays S k is b o j z) ∙ w j h)
+    (λ z. ap (λ (e : Look). stateWell count (e .state)) (a-slot-visited-is-changed S k is b o j z) ∙ a-slot-that-wears-is-well count (stateAt (k .states) j) (bitsAt u hover j) (bits-are-7-at-most u hover j) (w j h)))
+
+pub a-refreshed-tree-is-well : (count n : ℕ) (u : Ui) (hover : MaybeId) → limitOf u ≤ 128 → Sized (looksOf u) → ((j : ℕ) → 0 < occ j (statedOf u) → j < limitOf u)
+    → StatesWell count n (u .states) → StatesWell count n (refreshed u hover .states)
+unfolding refreshed withStated withLooks
+a-refreshed-tree-is-well count n u hover m o sb w =
+    slots-that-wear-are-well count n u hover (looksOf u) (backwards (statedOf u) ++ three u hover)
+    (λ j z. let h = the-slots-of-a-refresh-are-below-the-limit u hover sb j z in omega arith) o w
+
+-- whatever the pool is
+pub bare-slots-are-well : (count n : ℕ) (k : Looks) → n ≤ 128 → Sized k → StatesWell count n (bareAll k (fromTo 0 n) .states)
+bare-slots-are-well count n k m o j h =
+    let is : List ℕ = fromTo 0 n in
+    let q = occ-within 0 n j (omega arith) (omega arith) in
+    subst (λ (k′ : Looks). stateWell count (stateAt (k′ .states) j) ≡ true) (sym (bare-all-is-a-round k is))
+    (ap (λ (e : Look). stateWell count (e .state)) (a-slot-visited-is-changed bareStep k is (λ i z. let b = occurs-below n i z in omega arith) o j (omega arith))
+    ∙ a-bare-slot-is-well count (stateAt (k .states) j .base))
+
+one-slot-well : (count n : ℕ) (change : Look → Look) (moves : Look → Bool) (k k′ : Looks) (i : ℕ) → Stepped change moves k i k′ → ((e : Look) → stateWell count (e .state) ≡ true → stateWell count (change e .state) ≡ true)
+    → StatesWell count n (k .states) → StatesWell count n (k′ .states)
+one-slot-well count n change moves k k′ i S c w j h =
+    eq-cases j i
+    (λ e _ _. subst (λ (m : ℕ). stateWell count (stateAt (k .states) m) ≡ true → stateWell count (stateAt (k′ .states) m) ≡ true) (sym e)
+    (λ v. ap (λ (e : Look). stateWell count (e .state)) (S .here) ∙ c (lookAt k i) v) (w j h))
+    (λ e _ _. ap (λ (e : Look). stateWell count (e .state)) (S .elsewhere j e) ∙ w j h)
+
+pub a-styled-tree-is-well : (count n : ℕ) (u : Ui) (i : ℕ) (y : Style) → Sized (looksOf u) → i < 128 → StatesWell count n (u .states) → StatesWell count n (styledAt u i y .states)
+a-styled-tree-is-well count n u i y o h w =
+    one-slot-well count n _ _ (looksOf u) (looksOf (styledAt u i y)) i (style-step u i y o h) (λ e v. a-based-slot-is-well count (e .state) y v) w
+
+pub a-tabled-tree-is-well : (count n : ℕ) (u : Ui) (i : ℕ) (table : List ℕ) → Sized (looksOf u) → i < 128 → all (inPool count) table ≡ true → StatesWell count n (u .states) → StatesWell count n (tabledAt u i table .states)
+a-tabled-tree-is-well count n u i table o h t w =
+    one-slot-well count n _ _ (looksOf u) (looksOf (tabledAt u i table)) i (table-step u i table o h)
+    (λ e v. a-slot-that-wears-is-well count (tabled (e .state) table) (e .state .bits) (bits-of-a-well-slot count (e .state) v) (a-tabled-slot-is-well count (e .state) table t v)) w
