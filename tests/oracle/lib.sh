@@ -1,0 +1,52 @@
+# Shared by the scripts of this folder: where things are, and how a variant of the oracle is built.
+set -eu
+here=$(cd "$(dirname "$0")" && pwd)
+root=$(cd "$here/../.." && pwd)
+out=$root/target/oracle
+source=${ORACLE_SOURCE:-$root/../shared/docs/src}
+ui_files="field.rs input.rs layout.rs lib.rs state.rs text.rs"
+
+# Copies a file where it differs, so that an unchanged one is not compiled anew, and checks the copy.
+put() {
+    mkdir -p "$(dirname "$2")"
+    cmp -s "$1" "$2" || cat "$1" > "$2"
+    cmp "$1" "$2"
+}
+
+# Lays out a workspace in $out/$1: the tracked files, with $2 as its renew_fixed, and the source's.
+lay_out() {
+    for file in Cargo.toml renew_frame renew_ui desk compare; do
+        find "$here/$file" -type f | while read -r from; do
+            put "$from" "$out/$1/${from#"$here"/}"
+        done
+    done
+    find "$here/$2" -type f | while read -r from; do
+        put "$from" "$out/$1/renew_fixed/${from#"$here/$2"/}"
+    done
+    for file in $ui_files; do
+        put "$source/crates/ui/src/$file" "$out/$1/renew_ui/src/$file"
+    done
+    [ "$2" = renew_fixed ] || put "$source/crates/fixed/src/scalar.rs" "$out/$1/renew_fixed/src/scalar.rs"
+}
+
+# Builds the package $2 of the workspace $1 and keeps the program $3 as $out/bin/$4.
+build() {
+    mkdir -p "$out/bin"
+    (cd "$out/$1" && cargo build --quiet --offline --release --jobs "${ORACLE_JOBS:-2}" \
+        --target-dir "$out/$1/target" --package "$2" --bin "$3")
+    # Moved into place, since a run may still hold the old program open.
+    cp "$out/$1/target/release/$3" "$out/bin/$4.new"
+    mv "$out/bin/$4.new" "$out/bin/$4"
+}
+
+# The oracle: the source unchanged, with document 01's numbers.
+build_console() {
+    lay_out plain renew_fixed
+    build plain desk console console
+}
+
+# The same with the source's own scalar.rs.
+build_scalar() {
+    lay_out scalar renew_fixed_source
+    build scalar desk console console-scalar
+}
