@@ -1,6 +1,7 @@
 # Shared by the scripts of this folder: where things are, and how a variant of the oracle is built.
 set -eu
 here=$(cd "$(dirname "$0")" && pwd)
+crates=$here/crates
 root=$(cd "$here/../.." && pwd)
 out=$root/target/oracle
 source=${ORACLE_SOURCE:-$root/../shared/docs/src}
@@ -16,12 +17,12 @@ put() {
 # Lays out a workspace in $out/$1: the tracked files, with $2 as its renew_fixed, and the source's.
 lay_out() {
     for file in Cargo.toml renew_frame renew_ui desk compare; do
-        find "$here/$file" -type f | while read -r from; do
-            put "$from" "$out/$1/${from#"$here"/}"
+        find "$crates/$file" -type f | while read -r from; do
+            put "$from" "$out/$1/${from#"$crates"/}"
         done
     done
-    find "$here/$2" -type f | while read -r from; do
-        put "$from" "$out/$1/renew_fixed/${from#"$here/$2"/}"
+    find "$crates/$2" -type f | while read -r from; do
+        put "$from" "$out/$1/renew_fixed/${from#"$crates/$2"/}"
     done
     for file in $ui_files; do
         put "$source/crates/ui/src/$file" "$out/$1/renew_ui/src/$file"
@@ -49,4 +50,10 @@ build_console() {
 build_scalar() {
     lay_out scalar renew_fixed_source
     build scalar desk console console-scalar
+}
+
+# The program that compares, which links the oracle.
+build_compare() {
+    lay_out plain renew_fixed
+    build plain compare compare compare
 }
