@@ -16,16 +16,16 @@ put() {
 
 # Lays out a workspace in $out/$1: the tracked files, with $2 as its renew_fixed, and the source's.
 lay_out() {
-    for file in Cargo.toml renew_frame renew_ui desk compare; do
-        find "$crates/$file" -type f | while read -r from; do
+    for part in Cargo.toml renew_frame renew_ui desk compare; do
+        find "$crates/$part" -type f | while read -r from; do
             put "$from" "$out/$1/${from#"$crates"/}"
         done
     done
     find "$crates/$2" -type f | while read -r from; do
         put "$from" "$out/$1/renew_fixed/${from#"$crates/$2"/}"
     done
-    for file in $ui_files; do
-        put "$source/crates/ui/src/$file" "$out/$1/renew_ui/src/$file"
+    for part in $ui_files; do
+        put "$source/crates/ui/src/$part" "$out/$1/renew_ui/src/$part"
     done
     [ "$2" = renew_fixed ] || put "$source/crates/fixed/src/scalar.rs" "$out/$1/renew_fixed/src/scalar.rs"
 }

@@ -10,14 +10,14 @@ use crate::texts;
 type Story = fn(&mut Author);
 
 /// The stories with how often each is told.
-const STORIES: [(usize, Story); 27] = [
+const STORIES: [(usize, Story); 28] = [
     (12, grow_tree),
     (7, restyle),
     (8, pass),
     (8, tidy),
     (10, wander),
     (10, click_some),
-    (8, reuse_under_press),
+    (10, reuse_under_press),
     (6, reuse_under_focus),
     (6, remove_some),
     (6, press_around_insert),
@@ -36,8 +36,9 @@ const STORIES: [(usize, Story); 27] = [
     (3, malformed),
     (7, share_growth),
     (7, stop_sums),
+    (4, overlap),
     (5, gaps),
-    (1, anew),
+    (2, anew),
 ];
 
 pub fn tell(author: &mut Author) {
@@ -93,7 +94,7 @@ fn new_tree(author: &mut Author) {
         (50, middle),
         (2, 127),
         (9, 128),
-        (1, 129),
+        (3, 129),
         (1, 1_000),
         (1, i64::from(u32::MAX)),
     ]);
@@ -295,6 +296,10 @@ fn reuse_under_press(author: &mut Author) {
     author.call("press");
     let Some(again) = replace(author, node) else { return };
     author.call("pressed");
+    if author.rng.chance(50) {
+        // Bits are derived anew while the press still names the dead node.
+        keys(author, 1);
+    }
     author.call("release");
     author.call("focus");
     author.call("output");
@@ -345,6 +350,9 @@ fn remove_some(author: &mut Author) {
     }
     if author.rng.chance(60) {
         author.solve();
+        for _ in 0..3 {
+            author.call_on_live("rect");
+        }
     }
 }
 
@@ -696,7 +704,7 @@ fn refusals(author: &mut Author) {
                 author.call(format!("table {} {}", id(node), entries.join(" ")));
             }
         }
-        _ if author.rng.chance(30) => {
+        _ if author.rng.chance(60) => {
             let many = 63 + author.rng.below(4);
             while author.waiting() < many && author.waiting() < 65 {
                 author.call("patch 1 row auto auto 0 0 0 0 0 0 0 0 0 0 start start 1 2 3 4");
@@ -738,8 +746,10 @@ fn malformed(author: &mut Author) {
         "insert 4294967296 1", "live 0 18446744073709551616", "solve 0 9223372036854775808", "char -1", "char 4294967296",
         "edit up", "absorb 123", "absorb CBF29CE484222325", "measure 0", "measure 0G", "measure",
     ];
-    let line = author.rng.pick(&WHOLE);
-    author.call(line);
+    for _ in 0..3 {
+        let line = author.rng.pick(&WHOLE);
+        author.call(line);
+    }
     let node = author.some_live();
     let style = styles::style(&mut author.rng, author.sizes);
     let mut words: Vec<_> = format!("style {} {style}", id(node)).split(' ').map(str::to_string).collect();
@@ -796,47 +806,88 @@ fn share_growth(author: &mut Author) {
     });
 }
 
+/// A size at an end of the range, or 0 so many times in a hundred.
+fn far(author: &mut Author, none: usize) -> i64 {
+    const FAR: [i64; 6] = [i64::MIN, i64::MIN, i64::MAX, i64::MAX, i64::MIN / 2, i64::MAX / 2];
+    if author.rng.chance(none) { 0 } else { author.rng.pick(&FAR) }
+}
+
+/// Four edges; often those of one direction pull opposite ways.
+fn far_edges(author: &mut Author, none: usize) -> String {
+    const OPPOSED: [(i64, i64); 4] = [(i64::MAX, i64::MIN), (i64::MIN, i64::MAX), (i64::MAX, -PX), (i64::MIN, PX)];
+    let mut edges = Vec::new();
+    for _ in 0..2 {
+        let pair = match author.rng.below(3) {
+            0 => author.rng.pick(&OPPOSED),
+            _ => (far(author, none), far(author, none)),
+        };
+        edges.push(format!("{} {}", pair.0, pair.1));
+    }
+    edges.join(" ")
+}
+
 /// Sums that stop: sizes, margins, paddings and gaps at both ends, in every order.
 fn stop_sums(author: &mut Author) {
-    const FAR: [i64; 5] = [i64::MIN, i64::MAX, i64::MAX, i64::MIN / 2, i64::MAX / 2];
-    let mut far = |none: usize| {
-        if author.rng.chance(none) { 0 } else { author.rng.pick(&FAR) }
-    };
-    // Where the stage lies, how large it is, and how its child is placed inside.
-    let mut edges = |none: usize| (0..4).map(|_| far(none).to_string()).collect::<Vec<_>>().join(" ");
-    let (stage_margin, stage_padding) = (edges(70), edges(45));
-    let (margin, padding) = (edges(35), edges(60));
-    let sizes = [far(0), far(0), far(20), far(60)];
-    let direction = author.rng.pick(&["row", "column"]);
-    let align = author.rng.pick(&["start start", "end center", "center end"]);
-    let size = |at: usize, auto: bool| if auto { "auto".to_string() } else { sizes[at].to_string() };
-    let auto = [author.rng.chance(70), author.rng.chance(70)];
-    let stage_style = format!(
-        "{direction} {} {} {stage_margin} {stage_padding} {} 0 {align} 0 0 0 0",
-        size(0, auto[0]),
-        size(1, auto[1]),
-        sizes[3],
-    );
-    let grow = author.rng.pick(&[0, 0, 1]);
-    let child = format!("column {} {} {margin} {padding} 0 {grow} start start 0 0 0 0", sizes[2], sizes[1]);
-    stage(author, &stage_style, |author, stage| {
+    let style = styles::plain_stack("row", 0);
+    stage(author, &style, |author, stage| {
         let mut nodes = Vec::new();
-        for nth in 0..1 + author.rng.below(3) {
-            let Some(node) = author.insert(stage) else { break };
-            if nth == 0 || author.rng.chance(50) {
-                author.style(node, &child);
-            } else {
-                let style = styles::style(&mut author.rng, Sizes::Ends);
-                author.style(node, &style);
-            }
-            nodes.push(node);
+        for _ in 0..1 + author.rng.below(3) {
+            nodes.extend(author.insert(stage));
         }
-        if author.rng.chance(40) {
-            author.viewport = (Sizes::Ends.viewport(&mut author.rng), Sizes::Ends.viewport(&mut author.rng));
+        for _ in 0..4 {
+            far_stage(author, stage);
+            for &node in &nodes {
+                far_child(author, node);
+            }
+            if author.rng.chance(50) {
+                author.viewport = (Sizes::Ends.viewport(&mut author.rng), Sizes::Ends.viewport(&mut author.rng));
+            }
+            author.solve();
+            author.call_on("rect", stage);
+            for &node in &nodes {
+                author.call_on("rect", node);
+            }
+        }
+    });
+}
+
+fn far_stage(author: &mut Author, stage: NodeId) {
+    let direction = author.rng.pick(&["row", "column"]);
+    let [width, height] = [far_size(author, 50), far_size(author, 50)];
+    let (margin, padding) = (far_edges(author, 80), far_edges(author, 50));
+    let gap = far(author, 50);
+    let align = author.rng.pick(&["start start", "end center", "center end"]);
+    author.style(stage, &format!("{direction} {width} {height} {margin} {padding} {gap} 0 {align} 0 0 0 0"));
+}
+
+fn far_child(author: &mut Author, node: NodeId) {
+    let [width, height] = [far_size(author, 30), far_size(author, 30)];
+    let (margin, padding) = (far_edges(author, 50), far_edges(author, 50));
+    let grow = author.rng.pick(&[0, 0, 1, 3]);
+    author.style(node, &format!("column {width} {height} {margin} {padding} 0 {grow} start start 0 0 0 0"));
+}
+
+fn far_size(author: &mut Author, auto: usize) -> String {
+    if author.rng.chance(auto) { "auto".to_string() } else { far(author, 10).to_string() }
+}
+
+/// Siblings that lie over one another: the later one is hit.
+fn overlap(author: &mut Author) {
+    let direction = author.rng.pick(&["row", "column"]);
+    let gap = -PX * author.rng.between(3, 12);
+    let style = styles::plain_stack(direction, gap);
+    stage(author, &style, |author, stage| {
+        let mut nodes = Vec::new();
+        for _ in 0..2 + author.rng.below(2) {
+            let Some(node) = author.insert(stage) else { break };
+            author.style(node, &styles::plain_box(12 * PX, 12 * PX));
+            nodes.push(node);
         }
         author.solve();
         for node in nodes {
-            author.call_on("rect", node);
+            let point = author.point_near(node);
+            click(author, point);
+            author.call("focus");
         }
     });
 }
