@@ -1,8 +1,10 @@
 //! Compares a console with the oracle over random scripts.
 //!
-//!     compare run CONSOLE N SEED     N scripts; stops at the first difference, cut down
-//!     compare tell CONSOLE N SEED    the first scripts that show a faulty console
-//!     compare script SEED NUMBER     one script, as `run` uses it
+//!     compare run CONSOLE N SEED FILE   N scripts; stops at the first difference, cut down, kept in FILE
+//!     compare tell CONSOLE N SEED       the first scripts that show a faulty console
+//!     compare script SEED NUMBER        one script, as `run` uses it
+//!
+//! PATIENCE says after how many seconds a console hangs.
 
 mod author;
 mod console;
@@ -21,7 +23,7 @@ use std::time::Duration;
 
 use differ::{Difference, Subject, with_states};
 
-/// How long a console may take for one script.
+/// How long a console may take for one script, unless told otherwise.
 const PATIENCE: Duration = Duration::from_secs(20);
 /// Shorter where a difference is known and a run that hangs would be repeated many times.
 const LITTLE_PATIENCE: Duration = Duration::from_secs(2);
@@ -30,10 +32,12 @@ fn main() -> ExitCode {
     let words: Vec<_> = std::env::args().skip(1).collect();
     let words: Vec<_> = words.iter().map(String::as_str).collect();
     let done = match words[..] {
-        ["run", console, count, seed] => numbers(count, seed).and_then(|(count, seed)| run(console, count, seed)),
+        ["run", console, count, seed, file] => {
+            numbers(count, seed).and_then(|(count, seed)| run(console, count, seed, file))
+        }
         ["tell", console, count, seed] => numbers(count, seed).and_then(|(count, seed)| tell(console, count, seed)),
         ["script", seed, number] => numbers(seed, number).and_then(|(seed, number)| print_script(seed, number)),
-        _ => Err("usage: compare run|tell CONSOLE N SEED, compare script SEED NUMBER".to_string()),
+        _ => Err("usage: compare run CONSOLE N SEED FILE, compare tell CONSOLE N SEED, compare script SEED NUMBER".to_string()),
     };
     match done {
         Ok(true) => ExitCode::SUCCESS,
@@ -57,20 +61,25 @@ fn print_script(seed: u64, number: u64) -> Result<bool, String> {
 }
 
 /// Whether the console answers all scripts as the oracle does.
-fn run(console: &str, count: u64, seed: u64) -> Result<bool, String> {
-    let subject = Subject { path: Path::new(console), patience: PATIENCE };
+fn run(console: &str, count: u64, seed: u64, file: &str) -> Result<bool, String> {
+    let subject = Subject { path: Path::new(console), patience: patience() };
     let mut calls = 0;
     for number in 1..=count {
         let script = generate::script(seed, number);
         if let Some(difference) = subject.first_difference(&with_states(&script))? {
             println!("script {number} of seed {seed} differs at its call {}:", difference.line / 2 + 1);
             show(&difference);
-            return cut_down(console, &script).map(|()| false);
+            return cut_down(console, &script, file).map(|()| false);
         }
         calls += script.len();
     }
     println!("{count} scripts of seed {seed}, {calls} calls, `state` after each: no difference");
     Ok(true)
+}
+
+fn patience() -> Duration {
+    let told = std::env::var("PATIENCE").ok().and_then(|seconds| seconds.parse().ok());
+    told.map_or(PATIENCE, Duration::from_secs)
 }
 
 fn show(difference: &Difference) {
@@ -79,9 +88,9 @@ fn show(difference: &Difference) {
     println!("  console: {}", difference.console);
 }
 
-/// Prints the script cut down to the lines and words that the difference needs.
-fn cut_down(console: &str, script: &[String]) -> Result<(), String> {
-    let subject = Subject { path: Path::new(console), patience: LITTLE_PATIENCE };
+/// Prints and keeps the script cut down to the lines and words that the difference needs.
+fn cut_down(console: &str, script: &[String], file: &str) -> Result<(), String> {
+    let subject = Subject { path: Path::new(console), patience: LITTLE_PATIENCE.min(patience()) };
     let differs = |lines: &[String]| subject.first_difference(lines).is_ok_and(|found| found.is_some());
     // Without `state` lines where the answers alone still differ.
     let by_answers = differs(script);
@@ -89,7 +98,8 @@ fn cut_down(console: &str, script: &[String]) -> Result<(), String> {
     let short = shrink::lines(script, |calls| differs(&full(calls)));
     let short = shrink::words(&short, |calls| differs(&full(calls)));
     let short = shrink::lines(&full(&short), differs);
-    println!("\ncut down to {} lines:\n\n{}\n", short.len(), short.join("\n"));
+    println!("\ncut down to {} lines, kept in {file}:\n\n{}\n", short.len(), short.join("\n"));
+    std::fs::write(file, short.join("\n") + "\n").map_err(|error| format!("{file}: {error}"))?;
     match subject.first_difference(&short)? {
         Some(difference) => show(&difference),
         None => println!("  (the difference comes and goes: run the script again)"),
