@@ -52,6 +52,22 @@ build_scalar() {
     build scalar desk console console-scalar
 }
 
+# That with its two differences from document 01 set right: half, and which end a difference stops at.
+build_mended() {
+    lay_out mended renew_fixed_source
+    mended=$out/mended/renew_fixed/src/scalar.rs
+    edit "$mended" 2 '/^impl Sub/,/^}/ s/self.0 > 0/other.0 < 0/; /fn round_div_i128/,/^}/ s/if (num.*{/if false {/'
+    build mended desk console console-mended
+}
+
+# Changes a copied file by a sed script, which must change just so many lines.
+edit() { # file, lines, sed script
+    sed "$3" "$1" > "$1.new"
+    changed=$(diff "$1.new" "$1" | grep -c '^<') || true
+    [ "$changed" = "$2" ] || { echo "an edit changes $changed lines of $(basename "$1"), not $2: $3" >&2; exit 1; }
+    mv "$1.new" "$1"
+}
+
 # The program that compares, which links the oracle.
 build_compare() {
     lay_out plain renew_fixed

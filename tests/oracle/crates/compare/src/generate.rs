@@ -9,10 +9,11 @@ use crate::styles::Sizes;
 pub fn script(seed: u64, number: u64) -> Vec<String> {
     let mut rng = Rng::new(seed, number);
     let sizes = rng.weighted(&[(65, Sizes::Screen), (20, Sizes::Fractions), (15, Sizes::Ends)]);
-    let length = 60 + rng.below(200);
+    let length = 40 + rng.below(200);
     let mut author = Author::new(rng, sizes);
     stories::opening(&mut author);
-    while author.written() < length {
+    let end = author.written() + length;
+    while author.written() < end {
         stories::tell(&mut author);
     }
     stories::closing(&mut author);

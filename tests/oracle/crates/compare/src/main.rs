@@ -19,7 +19,7 @@ mod texts;
 use std::io::Write;
 use std::path::Path;
 use std::process::ExitCode;
-use std::time::Duration;
+use std::time::{Duration, Instant};
 
 use differ::{Difference, Subject, with_states};
 
@@ -27,6 +27,8 @@ use differ::{Difference, Subject, with_states};
 const PATIENCE: Duration = Duration::from_secs(20);
 /// Shorter where a difference is known and a run that hangs would be repeated many times.
 const LITTLE_PATIENCE: Duration = Duration::from_secs(2);
+/// How long a script is cut down; what is left then is shown.
+const CUTTING: Duration = Duration::from_secs(60);
 
 fn main() -> ExitCode {
     let words: Vec<_> = std::env::args().skip(1).collect();
@@ -91,7 +93,14 @@ fn show(difference: &Difference) {
 /// Prints and keeps the script cut down to the lines and words that the difference needs.
 fn cut_down(console: &str, script: &[String], file: &str) -> Result<(), String> {
     let subject = Subject { path: Path::new(console), patience: LITTLE_PATIENCE.min(patience()) };
-    let differs = |lines: &[String]| subject.first_difference(lines).is_ok_and(|found| found.is_some());
+    let start = Instant::now();
+    let differs = |lines: &[String]| {
+        start.elapsed() < CUTTING && subject.first_difference(lines).is_ok_and(|found| found.is_some())
+    };
+    if differs(&[]) {
+        println!("\nThe console differs over an empty script too.");
+        return Ok(());
+    }
     // Without `state` lines where the answers alone still differ.
     let by_answers = differs(script);
     let full = |calls: &[String]| if by_answers { calls.to_vec() } else { with_states(calls) };

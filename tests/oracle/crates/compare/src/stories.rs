@@ -10,7 +10,7 @@ use crate::texts;
 type Story = fn(&mut Author);
 
 /// The stories with how often each is told.
-const STORIES: [(usize, Story); 28] = [
+const STORIES: [(usize, Story); 29] = [
     (12, grow_tree),
     (7, restyle),
     (8, pass),
@@ -37,6 +37,7 @@ const STORIES: [(usize, Story); 28] = [
     (7, share_growth),
     (7, stop_sums),
     (4, overlap),
+    (2, deep_chain),
     (5, gaps),
     (2, anew),
 ];
@@ -48,6 +49,9 @@ pub fn tell(author: &mut Author) {
 
 /// The start of a script: events before the first tree, the tree, events before the first pass.
 pub fn opening(author: &mut Author) {
+    if author.rng.chance(6) {
+        return crowd(author);
+    }
     if author.rng.chance(15) {
         early_events(author);
     }
@@ -93,7 +97,7 @@ fn new_tree(author: &mut Author) {
         (20, small),
         (50, middle),
         (2, 127),
-        (9, 128),
+        (14, 128),
         (3, 129),
         (1, 1_000),
         (1, i64::from(u32::MAX)),
@@ -103,6 +107,36 @@ fn new_tree(author: &mut Author) {
         author.call("insert 0 1");
         author.call("new 20");
     }
+}
+
+/// The largest tree there is: all side by side, all inside one another, or as it comes.
+fn crowd(author: &mut Author) {
+    author.call("new 128");
+    let shape = author.rng.below(3);
+    let grow = 1 + author.rng.below(3);
+    let style = format!("row auto auto 0 0 0 0 0 0 0 0 0 {grow} start start 0 0 0 0");
+    let mut last = author.root();
+    loop {
+        let parent = match shape {
+            0 => author.root(),
+            1 => last,
+            _ => author.some_live(),
+        };
+        let Some(node) = author.insert(parent) else { break };
+        author.style(node, &style);
+        last = node;
+    }
+    // 126 units are missing among 127 equal children.
+    author.viewport = (127 * author.rng.between(0, PX) + 126, PX * author.rng.between(0, 50));
+    author.solve();
+    for _ in 0..8 {
+        author.call_on_live("rect");
+    }
+    author.call_on("rect", last);
+    let top = author.ui().first_child(author.root()).unwrap_or(last);
+    let gone = author.rng.pick(&[top, last]);
+    author.call_on("remove", gone);
+    author.call_on("live", last);
 }
 
 fn anew(author: &mut Author) {
@@ -121,8 +155,11 @@ fn early_events(author: &mut Author) {
     let point = author.rng.pick(&[(0, 0), (1, 0), (-1, -1), (5, 5)]);
     author.move_to(point);
     author.call("press");
-    if author.rng.chance(40) {
-        author.solve();
+    match author.rng.below(5) {
+        0 | 1 => author.solve(),
+        // Not dirty would mean solved for just this viewport.
+        2 => author.call("solve 0 0"),
+        _ => {}
     }
     author.call("release");
     author.call("focus");
@@ -205,7 +242,11 @@ fn wander(author: &mut Author) {
     }
     for _ in 0..2 + author.rng.below(5) {
         let node = if author.rng.chance(20) { author.root() } else { author.some_live() };
-        let point = author.point_near(node);
+        let point = match author.rng.below(20) {
+            0 => (i32::MAX, i32::MIN),
+            1 => (0, i32::MAX),
+            _ => author.point_near(node),
+        };
         author.move_to(point);
         match author.rng.below(5) {
             0 | 1 => {
@@ -792,7 +833,9 @@ fn share_growth(author: &mut Author) {
     let style = styles::plain_stack(direction, 0).replace("auto auto", &format!("{extent} {extent}"));
     stage(author, &style, |author, stage| {
         let mut nodes = Vec::new();
-        for _ in 0..2 + author.rng.below(7) {
+        let room = author.ui().limits().nodes - author.ui().live();
+        let many = if room > 30 && author.rng.chance(30) { 127 } else { 2 + author.rng.below(7) };
+        for _ in 0..many {
             let Some(node) = author.insert(stage) else { break };
             let grow = if even { grow } else { styles::grow(&mut author.rng) };
             let size = if author.rng.chance(80) { 0 } else { author.rng.between(-5, 5) };
@@ -800,8 +843,12 @@ fn share_growth(author: &mut Author) {
             nodes.push(node);
         }
         author.solve();
-        for node in nodes {
-            author.call_on("rect", node);
+        // Of very many the first and the last show enough.
+        let hidden = 8..nodes.len().saturating_sub(8).max(8);
+        for (nth, node) in nodes.into_iter().enumerate() {
+            if !hidden.contains(&nth) {
+                author.call_on("rect", node);
+            }
         }
     });
 }
@@ -889,6 +936,33 @@ fn overlap(author: &mut Author) {
             click(author, point);
             author.call("focus");
         }
+    });
+}
+
+/// One node inside the other as deep as there is room: walks that count their depth end here.
+fn deep_chain(author: &mut Author) {
+    let style = styles::plain_box(90 * PX, 90 * PX);
+    stage(author, &style, |author, stage| {
+        let mut nodes = vec![stage];
+        let depth = if author.rng.chance(30) { 127 } else { 12 };
+        while nodes.len() < depth
+            && let Some(node) = author.insert(nodes[nodes.len() - 1])
+        {
+            author.style(node, &style);
+            nodes.push(node);
+        }
+        author.solve();
+        let deepest = nodes[nodes.len() - 1];
+        author.call_on("rect", deepest);
+        if let Some(point) = author.point_in(deepest) {
+            click(author, point);
+            author.call("focus");
+        }
+        let from = author.rng.below(nodes.len());
+        author.call_on("remove", nodes[from]);
+        author.call_on("live", deepest);
+        author.insert(author.root());
+        author.insert(author.root());
     });
 }
 
