@@ -57,6 +57,12 @@ impl Author {
         self.call(format!("{word} {}", id(node)));
     }
 
+    /// A call on some live node.
+    pub fn call_on_live(&mut self, word: &str) {
+        let node = self.some_live();
+        self.call_on(word, node);
+    }
+
     /// An insert, and the id that it gave.
     pub fn insert(&mut self, parent: NodeId) -> Option<NodeId> {
         let line = format!("insert {}", id(parent));

@@ -43,7 +43,11 @@ impl Subject<'_> {
         self.difference(lines, |call| call != "state")
     }
 
-    fn difference(&self, lines: &[String], counts: impl Fn(&str) -> bool) -> Result<Option<Difference>, String> {
+    fn difference(
+        &self,
+        lines: &[String],
+        counts: impl Fn(&str) -> bool,
+    ) -> Result<Option<Difference>, String> {
         let expected = console::oracle(lines);
         let written = console::program(self.path, lines, self.patience)?;
         Ok(first(lines, &expected, &written, counts))

@@ -37,9 +37,16 @@ fn main() -> ExitCode {
         ["run", console, count, seed, file] => {
             numbers(count, seed).and_then(|(count, seed)| run(console, count, seed, file))
         }
-        ["tell", console, count, seed] => numbers(count, seed).and_then(|(count, seed)| tell(console, count, seed)),
-        ["script", seed, number] => numbers(seed, number).and_then(|(seed, number)| print_script(seed, number)),
-        _ => Err("usage: compare run CONSOLE N SEED FILE, compare tell CONSOLE N SEED, compare script SEED NUMBER".to_string()),
+        ["tell", console, count, seed] => {
+            numbers(count, seed).and_then(|(count, seed)| tell(console, count, seed))
+        }
+        ["script", seed, number] => {
+            numbers(seed, number).and_then(|(seed, number)| print_script(seed, number))
+        }
+        _ => Err(
+            "usage: compare run CONSOLE N SEED FILE, compare tell CONSOLE N SEED, compare script SEED NUMBER"
+                .to_string(),
+        ),
     };
     match done {
         Ok(true) => ExitCode::SUCCESS,

@@ -58,7 +58,9 @@ impl Sizes {
     /// A viewport's width or height.
     pub fn viewport(self, rng: &mut Rng) -> i64 {
         match self {
-            Self::Screen => PX * rng.between(60, 400) + if rng.chance(25) { rng.between(0, 65_535) } else { 0 },
+            Self::Screen => {
+                PX * rng.between(60, 400) + if rng.chance(25) { rng.between(0, 65_535) } else { 0 }
+            }
             Self::Fractions => rng.between(0, 200),
             Self::Ends if rng.chance(70) => rng.pick(&ENDS),
             Self::Ends => rng.bits().cast_signed(),

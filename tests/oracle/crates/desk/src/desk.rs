@@ -76,9 +76,7 @@ impl Desk {
             Call::Output => shown(Ok(show_option(self.ui.take_output())), "0 0"),
             Call::Live(node) => shown(Ok(if self.ui.is_live(node) { "yes" } else { "no" }), "no"),
             Call::First(node) => shown(Ok(show_option(self.ui.first_child(node))), "0 0"),
-            Call::Next(node) => {
-                shown(self.ui.next_sibling(node).map(show_option).ok_or(MISSING), "0 0")
-            }
+            Call::Next(node) => shown(self.ui.next_sibling(node).map(show_option).ok_or(MISSING), "0 0"),
             Call::Focus => shown(Ok(show_option(self.ui.stored_focus())), "0 0"),
             Call::Pressed => shown(Ok(show_option(self.ui.stored_pressed())), "0 0"),
             Call::Absorb(state) => {

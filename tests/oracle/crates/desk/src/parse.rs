@@ -106,12 +106,7 @@ impl<'a> Words<'a> {
     }
 
     fn edges(&mut self) -> Option<Edges> {
-        Some(Edges {
-            left: self.raw()?,
-            right: self.raw()?,
-            top: self.raw()?,
-            bottom: self.raw()?,
-        })
+        Some(Edges { left: self.raw()?, right: self.raw()?, top: self.raw()?, bottom: self.raw()? })
     }
 
     fn align(&mut self) -> Option<Align> {

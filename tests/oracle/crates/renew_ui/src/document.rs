@@ -89,9 +89,8 @@ impl Ui {
 
     fn digest_interaction(&self, hash: StateHash) -> StateHash {
         let state = &self.interaction;
-        let hash = hash
-            .absorb_u32(state.pointer.0.cast_unsigned())
-            .absorb_u32(state.pointer.1.cast_unsigned());
+        let hash =
+            hash.absorb_u32(state.pointer.0.cast_unsigned()).absorb_u32(state.pointer.1.cast_unsigned());
         let hash = digest_id(hash, state.pressed);
         digest_id(hash, state.focus)
             .absorb_u64(state.activations)
@@ -143,9 +142,7 @@ fn digest_slot(hash: StateHash, slot: &Slot, layout: &LayoutSlot, state: &StateS
     let hash = digest_style(hash, &layout.style);
     let hash = digest_raw(hash, &[x, y, width, height, layout.wanted_width, layout.wanted_height]);
     let hash = state.table.iter().fold(hash, |hash, &entry| hash.absorb_u32(u32::from(entry)));
-    digest_style(hash, &state.base)
-        .absorb_u32(u32::from(state.applied))
-        .absorb_u32(u32::from(state.bits))
+    digest_style(hash, &state.base).absorb_u32(u32::from(state.applied)).absorb_u32(u32::from(state.bits))
 }
 
 fn digest_style(hash: StateHash, style: &Style) -> StateHash {
