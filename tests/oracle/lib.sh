@@ -60,6 +60,14 @@ build_mended() {
     build mended desk console console-mended
 }
 
+# The source as it stands: its own scalar.rs, its own bounds, and a focus and press that hide dead ids.
+build_bare() {
+    lay_out bare renew_fixed_source
+    edit "$out/bare/desk/src/desk.rs" 2 's/\(MOST_NODES: u32 =\) 128/\1 1_000_000/; s/\(MOST_PATCHES: usize =\) 64/\1 65_534/'
+    edit "$out/bare/renew_ui/src/document.rs" 2 '/fn stored_/,/^    }/ s/self.interaction.\(focus\|pressed\)/self.\1()/'
+    build bare desk console console-bare
+}
+
 # Changes a copied file by a sed script, which must change just so many lines.
 edit() { # file, lines, sed script
     sed "$3" "$1" > "$1.new"
