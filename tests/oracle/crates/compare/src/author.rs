@@ -2,7 +2,7 @@
 //! and dead ids, at points inside and on the edges of the boxes of the last pass.
 
 use desk::ui::{NodeId, Rect, Ui};
-use desk::{Session, Step};
+use desk::{Runner, Step};
 
 use crate::rng::Rng;
 use crate::styles::{PX, Sizes};
@@ -12,7 +12,7 @@ pub struct Author {
     pub sizes: Sizes,
     pub viewport: (i64, i64),
     lines: Vec<String>,
-    session: Session,
+    runner: Runner,
     /// Every id that an insert ever gave, in this tree or an earlier one.
     given: Vec<NodeId>,
 }
@@ -24,17 +24,17 @@ impl Author {
             sizes,
             viewport: (320 * PX, 200 * PX),
             lines: Vec::new(),
-            session: Session::default(),
+            runner: Runner::default(),
             given: Vec::new(),
         }
     }
 
     pub fn ui(&self) -> &Ui {
-        self.session.desk().ui()
+        self.runner.desk().ui()
     }
 
     pub fn waiting(&self) -> usize {
-        self.session.desk().waiting()
+        self.runner.desk().waiting()
     }
 
     pub fn written(&self) -> usize {
@@ -48,7 +48,7 @@ impl Author {
     /// Writes one line and runs it.
     pub fn call(&mut self, line: impl Into<String>) {
         let line = line.into();
-        self.session.line(format!("{line}\n").as_bytes());
+        self.runner.line(format!("{line}\n").as_bytes());
         self.lines.push(line);
     }
 
@@ -66,7 +66,7 @@ impl Author {
     /// An insert, and the id that it gave.
     pub fn insert(&mut self, parent: NodeId) -> Option<NodeId> {
         let line = format!("insert {}", id(parent));
-        let Step::Answer(answer) = self.session.line(format!("{line}\n").as_bytes()) else {
+        let Step::Answer(answer) = self.runner.line(format!("{line}\n").as_bytes()) else {
             return None;
         };
         self.lines.push(line);

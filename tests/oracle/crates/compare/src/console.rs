@@ -7,7 +7,7 @@ use std::sync::mpsc;
 use std::thread;
 use std::time::{Duration, Instant};
 
-use desk::{Session, Step};
+use desk::{Runner, Step};
 
 /// One line that the oracle writes, and the line of the script that it answers.
 pub struct Expected {
@@ -17,10 +17,10 @@ pub struct Expected {
 
 /// What the oracle writes for these lines.
 pub fn oracle(lines: &[String]) -> Vec<Expected> {
-    let mut session = Session::default();
+    let mut runner = Runner::default();
     let mut expected = Vec::new();
     for (line, text) in lines.iter().enumerate() {
-        match session.line(format!("{text}\n").as_bytes()) {
+        match runner.line(format!("{text}\n").as_bytes()) {
             Step::Silent => {}
             Step::Answer(answer) => expected.push(Expected { line, answer }),
             Step::End => {

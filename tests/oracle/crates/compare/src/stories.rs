@@ -84,7 +84,7 @@ pub fn closing(author: &mut Author) {
     for word in ["focus", "pressed", "absorb cbf29ce484222325", "output", "output", "output"] {
         author.call(word);
     }
-    if author.rng.chance(4) {
+    if author.rng.chance(9) {
         let word = author.rng.pick(&["#", "new 1 ", "x"]);
         author.call(word.repeat(1_025).split_at(1_025).0);
         author.call("new 1");

@@ -9,4 +9,4 @@ pub mod script;
 
 pub use desk::Desk;
 pub use renew_ui as ui;
-pub use script::{Session, Step};
+pub use script::{Runner, Step};

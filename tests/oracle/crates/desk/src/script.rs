@@ -19,14 +19,14 @@ pub enum Step {
     End,
 }
 
-/// A desk and how many bytes of its script were read.
+/// Runs a script line by line: a desk, and how many bytes of its script were read.
 #[derive(Default)]
-pub struct Session {
+pub struct Runner {
     desk: Desk,
     read: usize,
 }
 
-impl Session {
+impl Runner {
     #[must_use]
     pub fn desk(&self) -> &Desk {
         &self.desk
@@ -49,7 +49,7 @@ impl Session {
 
 /// Runs a script to its end. `eager` hands out each answer at once, for a person at the keyboard.
 pub fn run(input: &mut impl BufRead, output: &mut impl Write, eager: bool) -> io::Result<()> {
-    let mut session = Session::default();
+    let mut runner = Runner::default();
     let mut line = Vec::new();
     loop {
         line.clear();
@@ -58,7 +58,7 @@ pub fn run(input: &mut impl BufRead, output: &mut impl Write, eager: bool) -> io
         if input.by_ref().take(most).read_until(b'\n', &mut line)? == 0 {
             return output.flush();
         }
-        match session.line(&line) {
+        match runner.line(&line) {
             Step::Silent => {}
             Step::Answer(answer) => writeln!(output, "{answer}")?,
             Step::End => {
