@@ -32,10 +32,11 @@ pub fn oracle(lines: &[String]) -> Vec<Expected> {
     expected
 }
 
-/// What a program wrote, and how it ended where that was not well.
+/// What a program wrote, how it ended where that was not well, and whether it had to be stopped.
 pub struct Written {
     pub lines: Vec<String>,
     pub trouble: Option<String>,
+    pub hung: bool,
 }
 
 /// Runs a program over these lines, for at most so long.
@@ -57,11 +58,12 @@ pub fn program(path: &Path, lines: &[String], patience: Duration) -> Result<Writ
         let _ = child.kill();
         let _ = child.wait();
     }
+    let hung = bytes.is_none();
     let text = String::from_utf8_lossy(&bytes.unwrap_or_default()).into_owned();
     let mut lines: Vec<_> = text.split('\n').map(str::to_string).collect();
     let rest = lines.pop().filter(|rest| !rest.is_empty());
     let trouble = trouble.or_else(|| rest.map(|rest| format!("`{rest}` at the end has no newline")));
-    Ok(Written { lines, trouble })
+    Ok(Written { lines, trouble, hung })
 }
 
 /// All that the child writes until it closes its output; nothing where that takes too long.

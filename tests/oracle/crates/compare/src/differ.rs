@@ -18,6 +18,7 @@ pub struct Difference {
     pub call: String,
     pub oracle: String,
     pub console: String,
+    pub hung: bool,
 }
 
 impl Difference {
@@ -70,7 +71,13 @@ fn first(
                 format!("nothing: {nth} lines of {}, {trouble}", expected.len())
             }
         };
-        return Some(Difference { line: *line, call: lines[*line].clone(), oracle: answer.clone(), console });
+        return Some(Difference {
+            line: *line,
+            call: lines[*line].clone(),
+            oracle: answer.clone(),
+            console,
+            hung: written.hung,
+        });
     }
     let last = lines.len().saturating_sub(1);
     let after = |console: String| Difference {
@@ -78,6 +85,7 @@ fn first(
         call: "the end of the script".to_string(),
         oracle: "nothing more, status 0".to_string(),
         console,
+        hung: written.hung,
     };
     if let Some(more) = written.lines.get(expected.len()) {
         return Some(after(format!("one more line: {more}")));

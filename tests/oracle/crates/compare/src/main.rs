@@ -71,6 +71,9 @@ fn print_script(seed: u64, number: u64) -> Result<bool, String> {
 
 /// Whether the console answers all scripts as the oracle does.
 fn run(console: &str, count: u64, seed: u64, file: &str) -> Result<bool, String> {
+    if count == 0 {
+        return Err("no scripts show nothing".to_string());
+    }
     let subject = Subject { path: Path::new(console), patience: patience() };
     let mut calls = 0;
     for number in 1..=count {
@@ -78,7 +81,9 @@ fn run(console: &str, count: u64, seed: u64, file: &str) -> Result<bool, String>
         if let Some(difference) = subject.first_difference(&with_states(&script))? {
             println!("script {number} of seed {seed} differs at its call {}:", difference.line / 2 + 1);
             show(&difference);
-            return cut_down(console, &script, file).map(|()| false);
+            let patience = if difference.hung { LITTLE_PATIENCE.min(patience()) } else { patience() };
+            let subject = Subject { patience, ..subject };
+            return cut_down(&subject, &script, file).map(|()| false);
         }
         calls += script.len();
     }
@@ -98,8 +103,7 @@ fn show(difference: &Difference) {
 }
 
 /// Prints and keeps the script cut down to the lines and words that the difference needs.
-fn cut_down(console: &str, script: &[String], file: &str) -> Result<(), String> {
-    let subject = Subject { path: Path::new(console), patience: LITTLE_PATIENCE.min(patience()) };
+fn cut_down(subject: &Subject, script: &[String], file: &str) -> Result<(), String> {
     let start = Instant::now();
     let differs = |lines: &[String]| {
         start.elapsed() < CUTTING && subject.first_difference(lines).is_ok_and(|found| found.is_some())

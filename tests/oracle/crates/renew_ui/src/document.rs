@@ -179,11 +179,10 @@ fn digest_raw(hash: StateHash, numbers: &[Fixed]) -> StateHash {
     numbers.iter().fold(hash, |hash, number| hash.absorb_i64(number.to_bits()))
 }
 
+/// An absent id enters as 2^32 - 1 and 0.
 fn digest_id(hash: StateHash, id: Option<NodeId>) -> StateHash {
-    match id {
-        Some(node) => hash.absorb_u32(node.index).absorb_u64(node.generation),
-        None => hash.absorb_u32(NIL).absorb_u64(0),
-    }
+    let (index, generation) = id.map_or((NIL, 0), |node| (node.index, node.generation));
+    hash.absorb_u32(index).absorb_u64(generation)
 }
 
 /// A length within the arena's bounds.

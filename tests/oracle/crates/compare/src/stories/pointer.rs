@@ -15,7 +15,7 @@ pub fn early_events(author: &mut Author) {
     author.call("press");
     match author.rng.below(5) {
         0 | 1 => author.solve(),
-        // Not dirty would mean solved for just this viewport.
+        // A pass, though a fresh tree is said to be solved for just this viewport.
         2 => author.call("solve 0 0"),
         _ => {}
     }

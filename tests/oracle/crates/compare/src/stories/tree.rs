@@ -6,6 +6,7 @@ use crate::stories::pointer::click;
 use crate::stories::states::patches;
 use crate::styles::{self, PX, Sizes};
 
+/// A tree of any limit, the refused ones too.
 pub fn new_tree(author: &mut Author) {
     let small = author.rng.between(2, 6);
     let middle = author.rng.between(7, 30);
@@ -27,6 +28,7 @@ pub fn new_tree(author: &mut Author) {
     }
 }
 
+/// Another tree in the middle of a script; waiting patches survive it.
 pub fn anew(author: &mut Author) {
     if author.rng.chance(40) {
         patches(author, 3);
@@ -93,6 +95,7 @@ pub fn restyle(author: &mut Author) {
     }
 }
 
+/// Mostly the script's own kind of sizes.
 fn some_sizes(author: &mut Author) -> Sizes {
     match author.rng.below(20) {
         0 => Sizes::Ends,
