@@ -1,0 +1,92 @@
+//! Short stories that scripts are made of. Each leads the tree into a corner where a small fault in
+//! a desk shows; a story that does not suit the tree of the moment writes little or nothing.
+
+mod answers;
+mod boxes;
+mod fields;
+mod pointer;
+mod states;
+mod tree;
+
+use crate::author::Author;
+
+type Story = fn(&mut Author);
+
+/// The stories with how often each is told.
+const STORIES: [(usize, Story); 29] = [
+    (12, tree::grow_tree),
+    (7, tree::restyle),
+    (8, tree::pass),
+    (8, tree::tidy),
+    (6, tree::remove_some),
+    (2, tree::deep_chain),
+    (2, tree::anew),
+    (10, pointer::wander),
+    (10, pointer::click_some),
+    (10, pointer::reuse_under_press),
+    (6, pointer::reuse_under_focus),
+    (6, pointer::press_around_insert),
+    (4, pointer::overflow),
+    (6, fields::panel_of_fields),
+    (4, fields::nine_fields),
+    (8, fields::type_some),
+    (7, fields::fill_field),
+    (7, fields::read_metres),
+    (9, states::wear),
+    (7, states::swap_pool),
+    (5, states::moved_under_pointer),
+    (7, boxes::share_growth),
+    (7, boxes::stop_sums),
+    (4, boxes::overlap),
+    (5, boxes::gaps),
+    (4, answers::refusals),
+    (3, answers::measure),
+    (12, answers::reads),
+    (3, answers::malformed),
+];
+
+pub fn tell(author: &mut Author) {
+    let story = author.rng.weighted(&STORIES);
+    story(author);
+}
+
+/// The start of a script: events before the first tree, the tree, events before the first pass.
+pub fn opening(author: &mut Author) {
+    if author.rng.chance(6) {
+        return tree::crowd(author);
+    }
+    if author.rng.chance(15) {
+        pointer::early_events(author);
+    }
+    tree::new_tree(author);
+    if author.rng.chance(30) {
+        pointer::early_events(author);
+    }
+    tree::grow_tree(author);
+    tree::tidy(author);
+}
+
+/// The end: everything that an answer can show is read.
+pub fn closing(author: &mut Author) {
+    for node in author.live().into_iter().take(30) {
+        for word in ["rect", "first", "next"] {
+            author.call_on(word, node);
+        }
+        if author.ui().field_text(node).is_some() {
+            for word in ["text", "cursor", "metres"] {
+                author.call_on(word, node);
+            }
+        }
+    }
+    for node in author.given().into_iter().take(20) {
+        author.call_on("live", node);
+    }
+    for word in ["focus", "pressed", "absorb cbf29ce484222325", "output", "output", "output"] {
+        author.call(word);
+    }
+    if author.rng.chance(9) {
+        let word = author.rng.pick(&["#", "new 1 ", "x"]);
+        author.call(word.repeat(1_025).split_at(1_025).0);
+        author.call("new 1");
+    }
+}
