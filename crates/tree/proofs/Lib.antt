@@ -22,3 +22,5 @@ pub mod RefreshLaws
 pub mod DressLaws
 pub mod WellLaws
 pub mod Parts
+pub mod ShapeParts
+pub mod LookParts
