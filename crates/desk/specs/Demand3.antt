@@ -91,6 +91,30 @@ abbrev pub given : Ui → List Call → List NodeId
 given u [] = []
 given u (c ∷ cs) = pick (isInsert c) (pick (same (step u c .number) 0) (step u c .told ∷ given (step u c .next) cs) (given (step u c .next) cs)) (given (step u c .next) cs)
 
+-- The arguments are machine values. Numbers may be any at all; what counts is that arrays have their lengths.
+abbrev pub Machine : Call → Type 0
+Machine (insert d) = Unit {0}
+Machine (remove d) = Unit {0}
+Machine (setStyle d s) = Unit {0}
+Machine (setStateTable d table) = length table ≡ 16
+Machine (setPatchPool patches count) = length patches ≡ 64
+Machine (makeField d) = Unit {0}
+Machine (solve v) = Unit {0}
+Machine (handle e) = Unit {0}
+Machine nextOutput = Unit {0}
+Machine (fieldText d) = Unit {0}
+Machine (fieldCursor d) = Unit {0}
+Machine (metres d) = Unit {0}
+Machine (rect d) = Unit {0}
+Machine (live d) = Unit {0}
+Machine (firstChild d) = Unit {0}
+Machine (nextSibling d) = Unit {0}
+Machine (absorb s) = Unit {0}
+
+abbrev pub Machines : List Call → Type 0
+Machines [] = Unit {0}
+Machines (c ∷ cs) = Machine c × Machines cs
+
 -- ---- the history over the same list
 
 abbrev pub follow : History → List Call → List NodeId → History
@@ -140,4 +164,4 @@ pub record Holds (limit : ℕ) (cs : List Call) : Type 0 where
   pub agree : Agree (run (tree.newTree limit .next) cs) (follow (start limit) cs (feed (tree.newTree limit .next) cs))
 
 abbrev pub Demand3 : Type 0
-Demand3 = (limit : ℕ) → limit < 2 ^ 32 → (cs : List Call) → length cs < 2 ^ 63 → Holds limit cs
+Demand3 = (limit : ℕ) → limit < 2 ^ 32 → (cs : List Call) → length cs < 2 ^ 63 → Machines cs → Holds limit cs

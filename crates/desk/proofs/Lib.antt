@@ -1,0 +1,5 @@
+-- modules that belong to no one function
+pub mod Invariant
+pub mod NameLaws
+pub mod RefreshSteps
+pub mod PointerSteps
