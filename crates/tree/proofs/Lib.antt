@@ -21,3 +21,4 @@ pub mod HitLaws
 pub mod RefreshLaws
 pub mod DressLaws
 pub mod WellLaws
+pub mod FieldLaws

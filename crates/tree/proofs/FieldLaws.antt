@@ -1,0 +1,398 @@
+-- The fields by owner. A live node's field is left alone when those of dead owners are cleared, and when another node claims one. Each
+-- field is vacant after the clearing or some live node's: so none is vacant just where as many live nodes have a field as there are
+-- fields. Assumes nothing.
+use mathlib.Core.Path.{_≡_, refl, sym, ap, _∙_, subst}
+use mathlib.Core.Logic.{_≢_}
+use mathlib.Core.Bool.{Bool, true, false, not, _||_, _&&_}
+use mathlib.Core.List.{List, [], _∷_, map}
+use Prim.Native.Nat.{ℕ, zero, suc, _+_, _≤_, _<_}
+use native.Mathlib.Omega.{arith}
+use lib.ListN.{length, replicate}
+use Rattle.text.proofs.Picks.{and-left, and-right}
+use Rattle.field.specs.Text.{text}
+use Rattle.field.specs.Fields.{emptyField, fieldOk, inRange, textOf}
+use Rattle.field.proofs.Laws.{empty-field-keeps-the-rules, empty-field-has-no-text}
+use Rattle.field.specs.declared.NodeId.{NodeId}
+use Rattle.field.specs.declared.MaybeId.{MaybeId}
+use Rattle.field.specs.declared.MaybeId.the-variants.{Absent, Present}
+use Rattle.field.specs.declared.Field.{Field}
+use Rattle.tree.specs.Tests.{pick, same, all, Maybe, nothing, just}
+use Rattle.tree.specs.Slots.{Slots, isLive}
+use Rattle.tree.specs.States.{isId, sameId}
+use Rattle.tree.specs.Fields.{firstField, owns, fieldOf, ownerDead, reclaimed, vacant, ownField, changeFirst, claimed}
+use Rattle.tree.specs.Rules.{ownersWell}
+use Rattle.tree.specs.Forest.{Forest, nil, node, hasBoth, hasId}
+use Rattle.tree.specs.Nodes.{Info, bit, hasField}
+use Rattle.tree.proofs.TestLaws.{same-yes, same-no, same-refl, δ-same, eq-cases, zero-cases, bool-cases}
+use Rattle.tree.proofs.ForestLaws.{cnt, wt}
+use Rattle.tree.proofs.Relations.{Rel, once}
+use Rattle.tree.proofs.Payloads.{AllF, all-map}
+use Rattle.tree.proofs.Ids.{no-id-without-its-index, live-just-where-a-node-has-it}
+use Rattle.tree.proofs.RuleLaws.{both-true}
+
+-- ---- ids
+
+pub one-id-is-the-other : (d e : NodeId) → sameId d e ≡ true → d ≡ e
+one-id-is-the-other d e h =
+    eq-cases (d .index) (e .index)
+    (λ q s _. eq-cases (d .generation) (e .generation)
+    (λ q′ s′ _. λ k. record { index = q k; generation = q′ k })
+    (λ q′ s′ _. let h′ : _≡_ {A = Bool} false true = sym (rw (s, s′)) ∙ h in let z : _≡_ {A = ℕ} 0 1 = cc in absurd (omega arith)))
+    (λ q s _. let h′ : _≡_ {A = Bool} false true = sym (rw s) ∙ h in let z : _≡_ {A = ℕ} 0 1 = cc in absurd (omega arith))
+
+pub an-id-is-itself : (d : NodeId) → sameId d d ≡ true
+an-id-is-itself d = rw (same-refl (d .index), same-refl (d .generation))
+
+same-sym : (i j : ℕ) → same i j ≡ same j i
+same-sym i j = eq-cases i j (λ e s _. s ∙ sym (same-yes j i (sym e))) (λ e s _. s ∙ sym (same-no j i (λ q. e (sym q))))
+
+pub to-have-an-id-is-to-be-named-by-it : (d : NodeId) (i g : ℕ) → hasBoth d i g ≡ sameId d (record { index = i; generation = g })
+to-have-an-id-is-to-be-named-by-it d i g = rw (same-sym i (d .index), same-sym g (d .generation))
+
+-- ---- counts
+
+-- how many fields the node owns, and how many nobody does
+abbrev pub owned : NodeId → List Field → ℕ
+owned d [] = 0
+owned d (f ∷ fs) = bit (owns d f) + owned d fs
+
+abbrev pub vacants : List Field → ℕ
+vacants [] = 0
+vacants (f ∷ fs) = bit (vacant f) + vacants fs
+
+abbrev pub isField : Maybe Field → Bool
+isField nothing = false
+isField (just f) = true
+
+pub who-owns-nothing-has-no-field : (d : NodeId) (fs : List Field) → owned d fs ≡ 0 → fieldOf d fs ≡ nothing
+unfolding fieldOf
+who-owns-nothing-has-no-field d [] z = refl
+who-owns-nothing-has-no-field d (f ∷ fs) z =
+    bool-cases (owns d f)
+    (λ q. let z′ : 1 + owned d fs ≡ 0 = rw q at z in absurd (omega arith))
+    (λ q. let z′ : 0 + owned d fs ≡ 0 = rw q at z in rw q (who-owns-nothing-has-no-field d fs (omega arith)))
+
+pub who-owns-one-has-a-field : (d : NodeId) (fs : List Field) → owned d fs ≤ 1 → bit (isField (fieldOf d fs)) ≡ owned d fs
+unfolding fieldOf
+who-owns-one-has-a-field d [] z = refl
+who-owns-one-has-a-field d (f ∷ fs) z =
+    bool-cases (owns d f)
+    (λ q. let z′ : 1 + owned d fs ≤ 1 = rw q at z in rw q (omega arith))
+    (λ q. let z′ : 0 + owned d fs ≤ 1 = rw q at z in let h = who-owns-one-has-a-field d fs (omega arith) in rw q (h ∙ omega arith))
+
+pub no-vacant-field-is-found : (fs : List Field) → firstField vacant fs ≡ nothing → vacants fs ≡ 0
+no-vacant-field-is-found [] e = refl
+no-vacant-field-is-found (f ∷ fs) e =
+    bool-cases (vacant f)
+    (λ q. let e′ : just f ≡ nothing = sym (rw q) ∙ e in let z : _≡_ {A = ℕ} 0 1 = cc in absurd (omega arith))
+    (λ q. let e′ : firstField vacant fs ≡ nothing = sym (rw q) ∙ e in let I = no-vacant-field-is-found fs e′ in rw q (omega arith))
+
+pub a-vacant-field-is-found : (fs : List Field) (f : Field) → firstField vacant fs ≡ just f → 0 < vacants fs
+a-vacant-field-is-found [] f e = let z : _≡_ {A = ℕ} 0 1 = cc in absurd (omega arith)
+a-vacant-field-is-found (h ∷ fs) f e =
+    bool-cases (vacant h)
+    (λ q. rw q (omega arith))
+    (λ q. let e′ : firstField vacant fs ≡ just f = sym (rw q) ∙ e in let I = a-vacant-field-is-found fs f e′ in rw q (omega arith))
+
+-- ---- a vacant field is nobody's
+
+abbrev isVacant : MaybeId → Bool
+isVacant Absent = true
+isVacant (Present d) = false
+
+vacant-by-owner : (o : MaybeId) (bytes : List ℕ) (len cursor : ℕ) → vacant (record { owner = o; bytes = bytes; len = len; cursor = cursor }) ≡ isVacant o
+vacant-by-owner Absent bytes len cursor = refl
+vacant-by-owner (Present d) bytes len cursor = refl
+
+vacant-is : (f : Field) → vacant f ≡ isVacant (f .owner)
+vacant-is f = vacant-by-owner (f .owner) (f .bytes) (f .len) (f .cursor)
+
+nobody-owns : (o : MaybeId) (d : NodeId) → isVacant o ≡ true → isId o d ≡ false
+nobody-owns Absent d e = refl
+nobody-owns (Present e′) d e = let z : _≡_ {A = ℕ} 0 1 = cc in absurd (omega arith)
+
+vacant-owns : (f : Field) (d : NodeId) → vacant f ≡ true → owns d f ≡ false
+vacant-owns f d e = nobody-owns (f .owner) d (sym (vacant-is f) ∙ e)
+
+-- a dead owner is none of the living
+dead-owns : (n : ℕ) (s : Slots) (o : MaybeId) (d : NodeId) → ownerDead n s o ≡ true → isLive n s d ≡ true → isId o d ≡ false
+dead-owns n s Absent d e h = refl
+dead-owns n s (Present e′) d e h =
+    bool-cases (sameId e′ d)
+    (λ q.
+    let h′ : isLive n s e′ ≡ true = subst (λ (z : NodeId). isLive n s z ≡ true) (sym (one-id-is-the-other e′ d q)) h in
+    let w : _≡_ {A = Bool} false true = sym (rw h′) ∙ e in
+    let z : _≡_ {A = ℕ} 0 1 = cc in absurd (omega arith))
+    (λ q. q)
+
+empty-owns : (d : NodeId) → owns d emptyField ≡ false
+unfolding emptyField
+empty-owns d = refl
+
+empty-is-vacant : vacant emptyField ≡ true
+unfolding emptyField
+empty-is-vacant = refl
+
+-- ---- the fields of the dead are cleared
+
+pub clearing-leaves-a-live-nodes-field : (n : ℕ) (s : Slots) (fs : List Field) (d : NodeId) → isLive n s d ≡ true
+    → (fieldOf d (reclaimed n s fs) ≡ fieldOf d fs) × (owned d (reclaimed n s fs) ≡ owned d fs)
+unfolding fieldOf reclaimed
+clearing-leaves-a-live-nodes-field n s [] d h = (refl, refl)
+clearing-leaves-a-live-nodes-field n s (f ∷ fs) d h =
+    let I = clearing-leaves-a-live-nodes-field n s fs d h in
+    bool-cases (ownerDead n s (f .owner))
+    (λ q.
+    let z : owns d f ≡ false = dead-owns n s (f .owner) d q h in
+    rw (q, empty-owns d, z) (I .0, ap (λ (m : ℕ). 0 + m) (I .1)))
+    (λ q. rw q (ap (λ (m : Maybe Field). pick (owns d f) (just f) m) (I .0), ap (λ (m : ℕ). bit (owns d f) + m) (I .1)))
+
+pub clearing-gives-nobody-a-field : (n : ℕ) (s : Slots) (fs : List Field) (d : NodeId) → owned d (reclaimed n s fs) ≤ owned d fs
+unfolding reclaimed
+clearing-gives-nobody-a-field n s [] d = omega arith
+clearing-gives-nobody-a-field n s (f ∷ fs) d =
+    let I = clearing-gives-nobody-a-field n s fs d in
+    bool-cases (ownerDead n s (f .owner)) (λ q. rw (q, empty-owns d) (omega arith)) (λ q. rw q (omega arith))
+
+pub clearing-keeps-the-number-of-fields : (n : ℕ) (s : Slots) (fs : List Field) → length (reclaimed n s fs) ≡ length fs
+unfolding reclaimed
+clearing-keeps-the-number-of-fields n s [] = refl
+clearing-keeps-the-number-of-fields n s (f ∷ fs) = ap suc (clearing-keeps-the-number-of-fields n s fs)
+
+pub clearing-keeps-a-test : (p : Field → Bool) → p emptyField ≡ true → (n : ℕ) (s : Slots) (fs : List Field) → all p fs ≡ true → all p (reclaimed n s fs) ≡ true
+unfolding reclaimed
+clearing-keeps-a-test p e n s [] h = refl
+clearing-keeps-a-test p e n s (f ∷ fs) h =
+    both-true (p (pick (ownerDead n s (f .owner)) emptyField f)) (all p (reclaimed n s fs))
+    (bool-cases (ownerDead n s (f .owner)) (λ q. rw q e) (λ q. rw q (and-left (p f) (all p fs) h)))
+    (clearing-keeps-a-test p e n s fs (and-right (p f) (all p fs) h))
+
+-- ---- a field is claimed
+
+pub a-claimed-field-is-the-nodes : (d : NodeId) (fs : List Field) → 0 < vacants fs → owned d fs ≡ 0 → (fieldOf d (claimed d fs) ≡ just (ownField d)) × (owned d (claimed d fs) ≡ 1)
+unfolding fieldOf claimed
+a-claimed-field-is-the-nodes d [] v z = absurd (omega arith)
+a-claimed-field-is-the-nodes d (f ∷ fs) v z =
+    bool-cases (vacant f)
+    (λ q.
+    let no : owns d f ≡ false = vacant-owns f d q in
+    let z′ : 0 + owned d fs ≡ 0 = rw no at z in
+    rw (q, an-id-is-itself d) (refl, omega arith))
+    (λ q.
+    let v′ : 0 < 0 + vacants fs = rw q at v in
+    bool-cases (owns d f)
+    (λ w. let z′ : 1 + owned d fs ≡ 0 = rw w at z in absurd (omega arith))
+    (λ w.
+    let z′ : 0 + owned d fs ≡ 0 = rw w at z in
+    let I = a-claimed-field-is-the-nodes d fs (omega arith) (omega arith) in
+    rw (q, w) (I .0, omega (arith, I .1))))
+
+pub a-claim-leaves-other-nodes-fields : (d e : NodeId) (fs : List Field) → sameId d e ≡ false → (fieldOf e (claimed d fs) ≡ fieldOf e fs) × (owned e (claimed d fs) ≡ owned e fs)
+unfolding fieldOf claimed
+a-claim-leaves-other-nodes-fields d e [] h = (refl, refl)
+a-claim-leaves-other-nodes-fields d e (f ∷ fs) h =
+    let I = a-claim-leaves-other-nodes-fields d e fs h in
+    bool-cases (vacant f)
+    (λ q. let z : owns e f ≡ false = vacant-owns f e q in rw (q, h, z) (refl, refl))
+    (λ q. rw q (ap (λ (m : Maybe Field). pick (owns e f) (just f) m) (I .0), ap (λ (m : ℕ). bit (owns e f) + m) (I .1)))
+
+pub a-claim-keeps-the-number-of-fields : (d : NodeId) (fs : List Field) → length (claimed d fs) ≡ length fs
+unfolding claimed
+a-claim-keeps-the-number-of-fields d [] = refl
+a-claim-keeps-the-number-of-fields d (f ∷ fs) = bool-cases (vacant f) (λ q. rw q) (λ q. rw q (ap suc (a-claim-keeps-the-number-of-fields d fs)))
+
+pub a-claim-keeps-a-test : (p : Field → Bool) (d : NodeId) → p (ownField d) ≡ true → (fs : List Field) → all p fs ≡ true → all p (claimed d fs) ≡ true
+unfolding claimed
+a-claim-keeps-a-test p d e [] h = refl
+a-claim-keeps-a-test p d e (f ∷ fs) h =
+    bool-cases (vacant f)
+    (λ q. rw q (both-true (p (ownField d)) (all p fs) e (and-right (p f) (all p fs) h)))
+    (λ q. rw q (both-true (p f) (all p (claimed d fs)) (and-left (p f) (all p fs) h) (a-claim-keeps-a-test p d e fs (and-right (p f) (all p fs) h))))
+
+-- ---- what holds of each field
+
+abbrev pub EachField : (Field → Type 0) → List Field → Type 0
+EachField P [] = Unit {0}
+EachField P (f ∷ fs) = P f × EachField P fs
+
+pub clearing-keeps-of-each : (P : Field → Type 0) → P emptyField → (n : ℕ) (s : Slots) (fs : List Field) → EachField P fs → EachField P (reclaimed n s fs)
+unfolding reclaimed
+clearing-keeps-of-each P e n s [] h = tt
+clearing-keeps-of-each P e n s (f ∷ fs) h =
+    (bool-cases (ownerDead n s (f .owner)) (λ q. rw q e) (λ q. rw q (h .0)), clearing-keeps-of-each P e n s fs (h .1))
+
+pub a-claim-keeps-of-each : (P : Field → Type 0) (d : NodeId) → P (ownField d) → (fs : List Field) → EachField P fs → EachField P (claimed d fs)
+unfolding claimed
+a-claim-keeps-of-each P d e [] h = tt
+a-claim-keeps-of-each P d e (f ∷ fs) h = bool-cases (vacant f) (λ q. rw q (e, h .1)) (λ q. rw q (h .0, a-claim-keeps-of-each P d e fs (h .1)))
+
+pub an-id-that-owns-no-field : (d : NodeId) (fs : List Field) → EachField (λ f. owns d f ≡ false) fs → owned d fs ≡ 0
+an-id-that-owns-no-field d [] h = refl
+an-id-that-owns-no-field d (f ∷ fs) h = let I = an-id-that-owns-no-field d fs (h .1) in rw (h .0) (omega arith)
+
+-- ---- the rules
+
+pub a-nodes-new-field-is-ok : (d : NodeId) → fieldOk (ownField d) ≡ true
+unfolding fieldOk inRange emptyField
+a-nodes-new-field-is-ok d = empty-field-keeps-the-rules
+
+pub a-nodes-new-field-has-no-text : (d : NodeId) → textOf (ownField d) ≡ text [] []
+unfolding textOf emptyField
+a-nodes-new-field-has-no-text d = empty-field-has-no-text
+
+-- no two fields with one owner: each id owns at most one
+none-owned-passes : (d : NodeId) (fs : List Field) → owned d fs ≡ 0 → all (λ (g : Field). not (isId (g .owner) d)) fs ≡ true
+none-owned-passes d [] z = refl
+none-owned-passes d (f ∷ fs) z =
+    bool-cases (isId (f .owner) d)
+    (λ q. let z′ : 1 + owned d fs ≡ 0 = rw q at z in absurd (omega arith))
+    (λ q. let z′ : 0 + owned d fs ≡ 0 = rw q at z in rw q (none-owned-passes d fs (omega arith)))
+
+passes-none-owned : (d : NodeId) (fs : List Field) → all (λ (g : Field). not (isId (g .owner) d)) fs ≡ true → owned d fs ≡ 0
+passes-none-owned d [] e = refl
+passes-none-owned d (f ∷ fs) e =
+    bool-cases (isId (f .owner) d)
+    (λ q. let e′ : _≡_ {A = Bool} false true = rw q at e in let z : _≡_ {A = ℕ} 0 1 = cc in absurd (omega arith))
+    (λ q. let e′ : all (λ (g : Field). not (isId (g .owner) d)) fs ≡ true = rw q at e in let I = passes-none-owned d fs e′ in rw q (omega arith))
+
+abbrev aloneIn : List Field → MaybeId → Bool
+aloneIn fs Absent = true
+aloneIn fs (Present d) = all (λ (g : Field). not (isId (g .owner) d)) fs
+
+owners-by-owner : (o : MaybeId) (bytes : List ℕ) (len cursor : ℕ) (fs : List Field)
+    → ownersWell (record { owner = o; bytes = bytes; len = len; cursor = cursor } ∷ fs) ≡ (aloneIn fs o && ownersWell fs)
+unfolding ownersWell
+owners-by-owner Absent bytes len cursor fs = refl
+owners-by-owner (Present d) bytes len cursor fs = refl
+
+owners-first : (f : Field) (fs : List Field) → ownersWell (f ∷ fs) ≡ (aloneIn fs (f .owner) && ownersWell fs)
+owners-first f fs = owners-by-owner (f .owner) (f .bytes) (f .len) (f .cursor) fs
+
+alone-counts : (o : MaybeId) (fs : List Field) → aloneIn fs o ≡ true → (d : NodeId) → isId o d ≡ true → owned d fs ≡ 0
+alone-counts Absent fs a d e = let z : _≡_ {A = ℕ} 0 1 = cc in absurd (omega arith)
+alone-counts (Present e′) fs a d e = subst (λ (x : NodeId). owned x fs ≡ 0) (one-id-is-the-other e′ d e) (passes-none-owned e′ fs a)
+
+counts-alone : (o : MaybeId) (fs : List Field) → ((d : NodeId) → isId o d ≡ true → owned d fs ≡ 0) → aloneIn fs o ≡ true
+counts-alone Absent fs h = refl
+counts-alone (Present e) fs h = none-owned-passes e fs (h e (an-id-is-itself e))
+
+pub each-id-owns-one-at-most : (fs : List Field) → ownersWell fs ≡ true → (d : NodeId) → owned d fs ≤ 1
+each-id-owns-one-at-most [] e d = omega arith
+each-id-owns-one-at-most (f ∷ fs) e d =
+    let e′ = sym (owners-first f fs) ∙ e in
+    let I = each-id-owns-one-at-most fs (and-right (aloneIn fs (f .owner)) (ownersWell fs) e′) d in
+    bool-cases (owns d f)
+    (λ q. let z = alone-counts (f .owner) fs (and-left (aloneIn fs (f .owner)) (ownersWell fs) e′) d q in rw q (omega arith))
+    (λ q. rw q (omega arith))
+
+pub owners-are-well-if-each-owns-one-at-most : (fs : List Field) → ((d : NodeId) → owned d fs ≤ 1) → ownersWell fs ≡ true
+unfolding ownersWell
+owners-are-well-if-each-owns-one-at-most [] h = refl
+owners-are-well-if-each-owns-one-at-most (f ∷ fs) h =
+    owners-first f fs
+    ∙ both-true (aloneIn fs (f .owner)) (ownersWell fs)
+    (counts-alone (f .owner) fs (λ d q. let v : 1 + owned d fs ≤ 1 = rw q at (h d) in omega arith))
+    (owners-are-well-if-each-owns-one-at-most fs (λ d. let v = h d in omega arith))
+
+pub clearing-keeps-owners-apart : (n : ℕ) (s : Slots) (fs : List Field) → ownersWell fs ≡ true → ownersWell (reclaimed n s fs) ≡ true
+clearing-keeps-owners-apart n s fs e =
+    owners-are-well-if-each-owns-one-at-most (reclaimed n s fs) (λ d. let a = each-id-owns-one-at-most fs e d in let b = clearing-gives-nobody-a-field n s fs d in omega arith)
+
+claim-at-most : (d : NodeId) (fs : List Field) → owned d (claimed d fs) ≤ 1 + owned d fs
+unfolding claimed
+claim-at-most d [] = omega arith
+claim-at-most d (f ∷ fs) =
+    let I = claim-at-most d fs in
+    bool-cases (vacant f) (λ q. rw (q, an-id-is-itself d) (omega arith)) (λ q. rw q (omega arith))
+
+pub a-claim-keeps-owners-apart : (d : NodeId) (fs : List Field) → owned d fs ≡ 0 → ownersWell fs ≡ true → ownersWell (claimed d fs) ≡ true
+a-claim-keeps-owners-apart d fs z e =
+    owners-are-well-if-each-owns-one-at-most (claimed d fs) (λ x. bool-cases (sameId d x)
+    (λ q. let m = claim-at-most d fs in subst (λ (y : NodeId). owned y (claimed d fs) ≤ 1) (one-id-is-the-other d x q) (omega arith))
+    (λ q. let c = a-claim-leaves-other-nodes-fields d x fs q .1 in let a = each-id-owns-one-at-most fs e x in omega arith))
+
+-- ---- how many fields are vacant once those of the dead are cleared
+
+module _ {X : Type 0} where
+  sum-of-none : (t : Forest X) → wt (λ i g x. 0) t ≡ 0
+  sum-of-none nil = refl
+  sum-of-none (node i g x cs sib) = let h = sum-of-none cs in let h′ = sum-of-none sib in omega arith
+
+  sum-of-both : (v w : ℕ → ℕ → X → ℕ) (t : Forest X) → wt (λ i g x. v i g x + w i g x) t ≡ wt v t + wt w t
+  sum-of-both v w nil = omega arith
+  sum-of-both v w (node i g x cs sib) = let h = sum-of-both v w cs in let h′ = sum-of-both v w sib in omega arith
+
+  pub equal-at-each-node-equal-in-sum : (v w : ℕ → ℕ → X → ℕ) (t : Forest X) → AllF (λ i g x. v i g x ≡ w i g x) t → wt v t ≡ wt w t
+  equal-at-each-node-equal-in-sum v w nil r = refl
+  equal-at-each-node-equal-in-sum v w (node i g x cs sib) r =
+      let h = equal-at-each-node-equal-in-sum v w cs (r .1) in let h′ = equal-at-each-node-equal-in-sum v w sib (r .2) in let q = r .0 in omega arith
+
+  -- 1 where a node is that of the owner
+  abbrev hers : MaybeId → ℕ → ℕ → X → ℕ
+  hers o i g x = bit (isId o (record { index = i; generation = g }))
+
+  -- nodes that own a field, by field
+  abbrev owners : List Field → Forest X → ℕ
+  owners [] t = 0
+  owners (f ∷ fs) t = wt (hers (f .owner)) t + owners fs t
+
+  -- both sums are over the pairs of a node and a field of its own
+  count-both : (fs : List Field) (t : Forest X) → wt (λ i g x. owned (record { index = i; generation = g }) fs) t ≡ owners fs t
+  count-both [] t = sum-of-none t
+  count-both (f ∷ fs) t =
+      let h = sum-of-both (hers (f .owner)) (λ i g x. owned (record { index = i; generation = g }) fs) t in
+      let h′ = count-both fs t in omega arith
+
+  id-none : (d : NodeId) (t : Forest X) → cnt (d .index) t ≡ 0 → wt (hers (Present d)) t ≡ 0
+  id-none d nil z = refl
+  id-none d (node i g x cs sib) z =
+      eq-cases (d .index) i
+      (λ e s q. let c = δ-same i (d .index) (sym e) in absurd (omega arith))
+      (λ e s q. let h = id-none d cs (omega arith) in let h′ = id-none d sib (omega arith) in rw s (omega arith))
+
+  id-count : (d : NodeId) (t : Forest X) → cnt (d .index) t ≤ 1 → wt (hers (Present d)) t ≡ bit (hasId d t)
+  id-count d nil z = refl
+  id-count d (node i g x cs sib) z =
+      let b = to-have-an-id-is-to-be-named-by-it d i g in
+      eq-cases i (d .index)
+      (λ e s q.
+      let h = id-none d cs (omega arith) in let h′ = id-none d sib (omega arith) in
+      rw (b, no-id-without-its-index d cs (omega arith), no-id-without-its-index d sib (omega arith))
+      (bool-cases (sameId d (record { index = i; generation = g })) (λ c. rw c (omega arith)) (λ c. rw c (omega arith))))
+      (λ e s q.
+      let no : sameId d (record { index = i; generation = g }) ≡ false = rw (same-no (d .index) i (λ q′. e (sym q′))) in
+      zero-cases (cnt (d .index) cs)
+      (λ c. let h = id-none d cs c in let h′ = id-count d sib (omega arith) in rw (b, no, no-id-without-its-index d cs c) (omega arith))
+      (λ c. let h = id-none d sib (omega arith) in let h′ = id-count d cs (omega arith) in
+      rw (b, no, no-id-without-its-index d sib (omega arith)) (bool-cases (hasId d cs) (λ w. let h″ = rw w at h′ in rw w (omega arith)) (λ w. let h″ = rw w at h′ in rw w (omega arith)))))
+
+  module _ {n : ℕ} {s : Slots} {free : ℕ} {t : Forest X} {fl : List ℕ} (r : Rel n s free t fl) where
+    one-or-the-other : (o : MaybeId) (bytes : List ℕ) (len cursor : ℕ)
+        → bit (vacant (pick (ownerDead n s o) emptyField (record { owner = o; bytes = bytes; len = len; cursor = cursor }))) + wt (hers o) t ≡ 1
+    one-or-the-other Absent bytes len cursor = let z = sum-of-none t in omega arith
+    one-or-the-other (Present d) bytes len cursor =
+        let o = once r (d .index) in
+        let c = id-count d t (omega arith) in
+        let l = live-just-where-a-node-has-it r d in
+        bool-cases (hasId d t)
+        (λ b. let c′ : wt (hers (Present d)) t ≡ 1 = rw b at c in let a : isLive n s d ≡ true = l ∙ b in rw a (omega arith))
+        (λ b. let c′ : wt (hers (Present d)) t ≡ 0 = rw b at c in let a : isLive n s d ≡ false = l ∙ b in rw (a, empty-is-vacant) (omega arith))
+
+    vacant-or-owned : (fs : List Field) → vacants (reclaimed n s fs) + owners fs t ≡ length fs
+    unfolding reclaimed
+    vacant-or-owned [] = omega arith
+    vacant-or-owned (f ∷ fs) =
+        let I = vacant-or-owned fs in
+        let o = one-or-the-other (f .owner) (f .bytes) (f .len) (f .cursor) in omega arith
+
+    -- every field is vacant after the clearing, or a live node's
+    pub vacant-fields-and-nodes-with-one : (has : X → Bool) (fs : List Field) → ownersWell fs ≡ true
+        → AllF (λ i g x. has x ≡ isField (fieldOf (record { index = i; generation = g }) fs)) t
+        → vacants (reclaimed n s fs) + wt (λ i g x. bit (has x)) t ≡ length fs
+    vacant-fields-and-nodes-with-one has fs ow al =
+        let v = vacant-or-owned fs in
+        let w = count-both fs t in
+        let e = equal-at-each-node-equal-in-sum (λ i g x. bit (has x)) (λ i g x. owned (record { index = i; generation = g }) fs) t
+        (all-map (λ i g x. has x ≡ isField (fieldOf (record { index = i; generation = g }) fs)) (λ i g x. bit (has x) ≡ owned (record { index = i; generation = g }) fs) t
+        (λ i g x _ q. ap bit q ∙ who-owns-one-has-a-field (record { index = i; generation = g }) fs (each-id-owns-one-at-most fs ow (record { index = i; generation = g }))) al) in
+        omega arith
