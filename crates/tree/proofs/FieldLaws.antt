@@ -9,7 +9,7 @@ use Prim.Native.Nat.{ℕ, zero, suc, _+_, _≤_, _<_}
 use native.Mathlib.Omega.{arith}
 use lib.ListN.{length, replicate}
 use Rattle.text.proofs.Picks.{and-left, and-right}
-use Rattle.field.specs.Text.{text}
+use Rattle.field.specs.Text.{Text, text}
 use Rattle.field.specs.Fields.{emptyField, fieldOk, inRange, textOf}
 use Rattle.field.proofs.Laws.{empty-field-keeps-the-rules, empty-field-has-no-text}
 use Rattle.field.specs.declared.NodeId.{NodeId}
@@ -17,17 +17,17 @@ use Rattle.field.specs.declared.MaybeId.{MaybeId}
 use Rattle.field.specs.declared.MaybeId.the-variants.{Absent, Present}
 use Rattle.field.specs.declared.Field.{Field}
 use Rattle.tree.specs.Tests.{pick, same, all, Maybe, nothing, just}
-use Rattle.tree.specs.Slots.{Slots, isLive}
+use Rattle.tree.specs.Slots.{Slots, at, isLive, idAt}
 use Rattle.tree.specs.States.{isId, sameId}
 use Rattle.tree.specs.Fields.{firstField, owns, fieldOf, ownerDead, reclaimed, vacant, ownField, changeFirst, claimed}
 use Rattle.tree.specs.Rules.{ownersWell}
 use Rattle.tree.specs.Forest.{Forest, nil, node, hasBoth, hasId}
-use Rattle.tree.specs.Nodes.{Info, bit, hasField}
+use Rattle.tree.specs.Nodes.{Info, bit, hasField, withField, changeOf}
 use Rattle.tree.proofs.TestLaws.{same-yes, same-no, same-refl, δ-same, eq-cases, zero-cases, bool-cases}
 use Rattle.tree.proofs.ForestLaws.{cnt, wt}
 use Rattle.tree.proofs.Relations.{Rel, once}
-use Rattle.tree.proofs.Payloads.{AllF, all-map}
-use Rattle.tree.proofs.Ids.{no-id-without-its-index, live-just-where-a-node-has-it}
+use Rattle.tree.proofs.Payloads.{AllF, all-map, all-both, all-mapF}
+use Rattle.tree.proofs.Ids.{no-id-without-its-index, live-just-where-a-node-has-it, slots-id-is-live, nodes-have-their-slots-generation}
 use Rattle.tree.proofs.RuleLaws.{both-true}
 
 -- ---- ids
@@ -48,6 +48,28 @@ same-sym i j = eq-cases i j (λ e s _. s ∙ sym (same-yes j i (sym e))) (λ e s
 
 pub to-have-an-id-is-to-be-named-by-it : (d : NodeId) (i g : ℕ) → hasBoth d i g ≡ sameId d (record { index = i; generation = g })
 to-have-an-id-is-to-be-named-by-it d i g = rw (same-sym i (d .index), same-sym g (d .generation))
+
+-- ---- what holds of each field, and an edit of one
+
+abbrev pub EachField : (Field → Type 0) → List Field → Type 0
+EachField P [] = Unit {0}
+EachField P (f ∷ fs) = P f × EachField P fs
+
+pub a-test-of-all-is-of-each : (p : Field → Bool) (fs : List Field) → all p fs ≡ true → EachField (λ f. p f ≡ true) fs
+a-test-of-all-is-of-each p [] e = tt
+a-test-of-all-is-of-each p (f ∷ fs) e = (and-left (p f) (all p fs) e, a-test-of-all-is-of-each p fs (and-right (p f) (all p fs) e))
+
+pub a-test-of-each-is-of-all : (p : Field → Bool) (fs : List Field) → EachField (λ f. p f ≡ true) fs → all p fs ≡ true
+a-test-of-each-is-of-all p [] e = refl
+a-test-of-each-is-of-all p (f ∷ fs) e = both-true (p f) (all p fs) (e .0) (a-test-of-each-is-of-all p fs (e .1))
+
+pub an-edit-keeps-of-each : (P : Field → Type 0) (p : Field → Bool) (c : Field → Field) → ((f : Field) → P f → P (c f)) → (fs : List Field) → EachField P fs → EachField P (changeFirst p c fs)
+an-edit-keeps-of-each P p c e [] h = tt
+an-edit-keeps-of-each P p c e (f ∷ fs) h = bool-cases (p f) (λ q. rw q (e f (h .0), h .1)) (λ q. rw q (h .0, an-edit-keeps-of-each P p c e fs (h .1)))
+
+pub an-edit-keeps-the-number-of-fields : (p : Field → Bool) (c : Field → Field) (fs : List Field) → length (changeFirst p c fs) ≡ length fs
+an-edit-keeps-the-number-of-fields p c [] = refl
+an-edit-keeps-the-number-of-fields p c (f ∷ fs) = bool-cases (p f) (λ q. rw q) (λ q. rw q (ap suc (an-edit-keeps-the-number-of-fields p c fs)))
 
 -- ---- counts
 
@@ -79,6 +101,10 @@ who-owns-one-has-a-field d (f ∷ fs) z =
     bool-cases (owns d f)
     (λ q. let z′ : 1 + owned d fs ≤ 1 = rw q at z in rw q (omega arith))
     (λ q. let z′ : 0 + owned d fs ≤ 1 = rw q at z in let h = who-owns-one-has-a-field d fs (omega arith) in rw q (h ∙ omega arith))
+
+pub an-id-that-owns-no-field : (d : NodeId) (fs : List Field) → EachField (λ f. owns d f ≡ false) fs → owned d fs ≡ 0
+an-id-that-owns-no-field d [] h = refl
+an-id-that-owns-no-field d (f ∷ fs) h = let I = an-id-that-owns-no-field d fs (h .1) in rw (h .0) (omega arith)
 
 pub no-vacant-field-is-found : (fs : List Field) → firstField vacant fs ≡ nothing → vacants fs ≡ 0
 no-vacant-field-is-found [] e = refl
@@ -159,13 +185,14 @@ unfolding reclaimed
 clearing-keeps-the-number-of-fields n s [] = refl
 clearing-keeps-the-number-of-fields n s (f ∷ fs) = ap suc (clearing-keeps-the-number-of-fields n s fs)
 
-pub clearing-keeps-a-test : (p : Field → Bool) → p emptyField ≡ true → (n : ℕ) (s : Slots) (fs : List Field) → all p fs ≡ true → all p (reclaimed n s fs) ≡ true
+pub clearing-keeps-of-each : (P : Field → Type 0) → P emptyField → (n : ℕ) (s : Slots) (fs : List Field) → EachField P fs → EachField P (reclaimed n s fs)
 unfolding reclaimed
-clearing-keeps-a-test p e n s [] h = refl
-clearing-keeps-a-test p e n s (f ∷ fs) h =
-    both-true (p (pick (ownerDead n s (f .owner)) emptyField f)) (all p (reclaimed n s fs))
-    (bool-cases (ownerDead n s (f .owner)) (λ q. rw q e) (λ q. rw q (and-left (p f) (all p fs) h)))
-    (clearing-keeps-a-test p e n s fs (and-right (p f) (all p fs) h))
+clearing-keeps-of-each P e n s [] h = tt
+clearing-keeps-of-each P e n s (f ∷ fs) h =
+    (bool-cases (ownerDead n s (f .owner)) (λ q. rw q e) (λ q. rw q (h .0)), clearing-keeps-of-each P e n s fs (h .1))
+
+pub clearing-keeps-a-test : (p : Field → Bool) → p emptyField ≡ true → (n : ℕ) (s : Slots) (fs : List Field) → all p fs ≡ true → all p (reclaimed n s fs) ≡ true
+clearing-keeps-a-test p e n s fs h = a-test-of-each-is-of-all p (reclaimed n s fs) (clearing-keeps-of-each (λ f. p f ≡ true) e n s fs (a-test-of-all-is-of-each p fs h))
 
 -- ---- a field is claimed
 
@@ -198,37 +225,14 @@ a-claim-leaves-other-nodes-fields d e (f ∷ fs) h =
 
 pub a-claim-keeps-the-number-of-fields : (d : NodeId) (fs : List Field) → length (claimed d fs) ≡ length fs
 unfolding claimed
-a-claim-keeps-the-number-of-fields d [] = refl
-a-claim-keeps-the-number-of-fields d (f ∷ fs) = bool-cases (vacant f) (λ q. rw q) (λ q. rw q (ap suc (a-claim-keeps-the-number-of-fields d fs)))
-
-pub a-claim-keeps-a-test : (p : Field → Bool) (d : NodeId) → p (ownField d) ≡ true → (fs : List Field) → all p fs ≡ true → all p (claimed d fs) ≡ true
-unfolding claimed
-a-claim-keeps-a-test p d e [] h = refl
-a-claim-keeps-a-test p d e (f ∷ fs) h =
-    bool-cases (vacant f)
-    (λ q. rw q (both-true (p (ownField d)) (all p fs) e (and-right (p f) (all p fs) h)))
-    (λ q. rw q (both-true (p f) (all p (claimed d fs)) (and-left (p f) (all p fs) h) (a-claim-keeps-a-test p d e fs (and-right (p f) (all p fs) h))))
-
--- ---- what holds of each field
-
-abbrev pub EachField : (Field → Type 0) → List Field → Type 0
-EachField P [] = Unit {0}
-EachField P (f ∷ fs) = P f × EachField P fs
-
-pub clearing-keeps-of-each : (P : Field → Type 0) → P emptyField → (n : ℕ) (s : Slots) (fs : List Field) → EachField P fs → EachField P (reclaimed n s fs)
-unfolding reclaimed
-clearing-keeps-of-each P e n s [] h = tt
-clearing-keeps-of-each P e n s (f ∷ fs) h =
-    (bool-cases (ownerDead n s (f .owner)) (λ q. rw q e) (λ q. rw q (h .0)), clearing-keeps-of-each P e n s fs (h .1))
+a-claim-keeps-the-number-of-fields d fs = an-edit-keeps-the-number-of-fields vacant (λ (f : Field). ownField d) fs
 
 pub a-claim-keeps-of-each : (P : Field → Type 0) (d : NodeId) → P (ownField d) → (fs : List Field) → EachField P fs → EachField P (claimed d fs)
 unfolding claimed
-a-claim-keeps-of-each P d e [] h = tt
-a-claim-keeps-of-each P d e (f ∷ fs) h = bool-cases (vacant f) (λ q. rw q (e, h .1)) (λ q. rw q (h .0, a-claim-keeps-of-each P d e fs (h .1)))
+a-claim-keeps-of-each P d e fs h = an-edit-keeps-of-each P vacant (λ (f : Field). ownField d) (λ f _. e) fs h
 
-pub an-id-that-owns-no-field : (d : NodeId) (fs : List Field) → EachField (λ f. owns d f ≡ false) fs → owned d fs ≡ 0
-an-id-that-owns-no-field d [] h = refl
-an-id-that-owns-no-field d (f ∷ fs) h = let I = an-id-that-owns-no-field d fs (h .1) in rw (h .0) (omega arith)
+pub a-claim-keeps-a-test : (p : Field → Bool) (d : NodeId) → p (ownField d) ≡ true → (fs : List Field) → all p fs ≡ true → all p (claimed d fs) ≡ true
+a-claim-keeps-a-test p d e fs h = a-test-of-each-is-of-all p (claimed d fs) (a-claim-keeps-of-each (λ f. p f ≡ true) d e fs (a-test-of-all-is-of-each p fs h))
 
 -- ---- the rules
 
@@ -396,3 +400,113 @@ module _ {X : Type 0} where
         (all-map (λ i g x. has x ≡ isField (fieldOf (record { index = i; generation = g }) fs)) (λ i g x. bit (has x) ≡ owned (record { index = i; generation = g }) fs) t
         (λ i g x _ q. ap bit q ∙ who-owns-one-has-a-field (record { index = i; generation = g }) fs (each-id-owns-one-at-most fs ow (record { index = i; generation = g }))) al) in
         omega arith
+
+-- ---- a node's text is its field's
+
+abbrev pub textIn : Maybe Field → Maybe Text
+textIn nothing = nothing
+textIn (just f) = just (textOf f)
+
+-- the fields hold the node's text
+abbrev pub Texted : List Field → ℕ → ℕ → Info → Type 0
+Texted fs i g x = x .text ≡ textIn (fieldOf (record { index = i; generation = g }) fs)
+
+has-by-field : (x : Info) (m : Maybe Field) → hasField (withField x (textIn m)) ≡ isField m
+has-by-field x nothing = refl
+has-by-field x (just f) = refl
+
+pub a-node-with-a-text-has-a-field : (x : Info) (m : Maybe Field) → x .text ≡ textIn m → hasField x ≡ isField m
+a-node-with-a-text-has-a-field x m e = ap (λ (z : Maybe Text). hasField (withField x z)) e ∙ has-by-field x m
+
+pub who-has-no-field-owns-nothing : (d : NodeId) (fs : List Field) → fieldOf d fs ≡ nothing → owned d fs ≡ 0
+unfolding fieldOf
+who-has-no-field-owns-nothing d [] e = refl
+who-has-no-field-owns-nothing d (f ∷ fs) e =
+    bool-cases (owns d f)
+    (λ q. let e′ : just f ≡ nothing = sym (rw q) ∙ e in let z : _≡_ {A = ℕ} 0 1 = cc in absurd (omega arith))
+    (λ q. let e′ : firstField (owns d) fs ≡ nothing = sym (rw q) ∙ e in let I = who-has-no-field-owns-nothing d fs e′ in rw q (omega arith))
+
+module _ {n : ℕ} {s : Slots} {free : ℕ} {t : Forest Info} {fl : List ℕ} (r : Rel n s free t fl) where
+  -- 8 live nodes with a field, or a vacant one
+  pub a-field-is-vacant-or-every-field-is-a-live-nodes {ℓ} : {G : Type ℓ} (fs : List Field) → ownersWell fs ≡ true → AllF (Texted fs) t
+      → (firstField vacant (reclaimed n s fs) ≡ nothing → wt (λ i g x. bit (hasField x)) t ≡ length fs → G)
+      → ((f : Field) → firstField vacant (reclaimed n s fs) ≡ just f → wt (λ i g x. bit (hasField x)) t < length fs → G) → G
+  a-field-is-vacant-or-every-field-is-a-live-nodes {G = G} fs ow tx none some = go (firstField vacant (reclaimed n s fs)) refl
+    where
+      sum : vacants (reclaimed n s fs) + wt (λ i g x. bit (hasField x)) t ≡ length fs
+      sum = vacant-fields-and-nodes-with-one r hasField fs ow
+          (all-map (Texted fs) (λ i g x. hasField x ≡ isField (fieldOf (record { index = i; generation = g }) fs)) t
+          (λ i g x _ q. a-node-with-a-text-has-a-field x (fieldOf (record { index = i; generation = g }) fs) q) tx)
+
+      go : (m : Maybe Field) → firstField vacant (reclaimed n s fs) ≡ m → G
+      go nothing e = let v = no-vacant-field-is-found (reclaimed n s fs) e in let w = sum in none e (omega arith)
+      go (just f) e = let v = a-vacant-field-is-found (reclaimed n s fs) f e in let w = sum in some f e (omega arith)
+
+  -- what the nodes' ids are
+  nodes-ids-are-live : AllF (λ i g x. isLive n s (record { index = i; generation = g }) ≡ true) t
+  nodes-ids-are-live =
+      all-map (λ i g x. (at s i .generation ≡ g) × (at s i .live ≡ true)) (λ i g x. isLive n s (record { index = i; generation = g }) ≡ true) t
+      (λ i g x c q. subst (λ (m : ℕ). isLive n s (record { index = i; generation = m }) ≡ true) (q .0) (live-just-where-a-node-has-it r (idAt s i) ∙ slots-id-is-live r i c))
+      (nodes-have-their-slots-generation r)
+
+  pub a-field-made-is-an-empty-text : (fs : List Field) (d : NodeId) → hasId d t ≡ true → fieldOf d fs ≡ nothing → (f : Field) → firstField vacant (reclaimed n s fs) ≡ just f
+      → AllF (Texted fs) t → AllF (Texted (claimed d (reclaimed n s fs))) (changeOf d (λ x. withField x (just (text [] []))) t)
+  a-field-made-is-an-empty-text fs d live none f some tx =
+      let R : List Field = reclaimed n s fs in
+      let u : ℕ → ℕ → Info → Info = λ i g x. pick (hasBoth d i g) (withField x (just (text [] []))) x in
+      let L : ℕ → ℕ → Info → Type 0 = λ i g x. isLive n s (record { index = i; generation = g }) ≡ true in
+      let ld : isLive n s d ≡ true = live-just-where-a-node-has-it r d ∙ live in
+      let z : owned d R ≡ 0 = clearing-leaves-a-live-nodes-field n s fs d ld .1 ∙ who-has-no-field-owns-nothing d fs none in
+      let own = a-claimed-field-is-the-nodes d R (a-vacant-field-is-found R f some) z .0 in
+      all-mapF (Texted (claimed d R)) u t (all-map (λ i g x. Texted fs i g x × L i g x) (λ i g x. Texted (claimed d R) i g (u i g x)) t
+      (λ i g x _ q.
+      let e : NodeId = record { index = i; generation = g } in
+      let h = to-have-an-id-is-to-be-named-by-it d i g in
+      bool-cases (sameId d e)
+      (λ b. subst (λ (c : Bool). Texted (claimed d R) i g (pick c (withField x (just (text [] []))) x)) (sym (h ∙ b))
+      (subst (λ (y : NodeId). just (text [] []) ≡ textIn (fieldOf y (claimed d R))) (one-id-is-the-other d e b)
+      (sym (ap textIn own ∙ ap (λ (y : Text). just y) (a-nodes-new-field-has-no-text d)))))
+      (λ b. subst (λ (c : Bool). Texted (claimed d R) i g (pick c (withField x (just (text [] []))) x)) (sym (h ∙ b))
+      (q .0 ∙ ap textIn (sym (a-claim-leaves-other-nodes-fields d e R b .0 ∙ clearing-leaves-a-live-nodes-field n s fs e (q .1) .0)))))
+      (all-both (Texted fs) L t tx nodes-ids-are-live))
+
+-- ---- an edit of a node's field, which keeps the owner
+
+abbrev pub editIn : (Field → Field) → Maybe Field → Maybe Field
+editIn c nothing = nothing
+editIn c (just f) = just (c f)
+
+module _ (c : Field → Field) (keeps : (f : Field) → c f .owner ≡ f .owner) (d : NodeId) where
+  owns-edited : (e : NodeId) (f : Field) → owns e (c f) ≡ owns e f
+  owns-edited e f = ap (λ (o : MaybeId). isId o e) (keeps f)
+
+  pub an-edit-is-of-the-nodes-field : (fs : List Field) → fieldOf d (changeFirst (owns d) c fs) ≡ editIn c (fieldOf d fs)
+  unfolding fieldOf
+  an-edit-is-of-the-nodes-field [] = refl
+  an-edit-is-of-the-nodes-field (f ∷ fs) =
+      bool-cases (owns d f)
+      (λ b. rw (b, owns-edited d f, b))
+      (λ b. rw (b, b) (an-edit-is-of-the-nodes-field fs))
+
+  pub an-edit-leaves-other-nodes-fields : (e : NodeId) (fs : List Field) → sameId d e ≡ false → fieldOf e (changeFirst (owns d) c fs) ≡ fieldOf e fs
+  unfolding fieldOf
+  an-edit-leaves-other-nodes-fields e [] h = refl
+  an-edit-leaves-other-nodes-fields e (f ∷ fs) h =
+      bool-cases (owns d f)
+      (λ b. let z = not-hers (f .owner) e b h in rw (b, owns-edited e f, z))
+      (λ b. rw b (ap (λ (m : Maybe Field). pick (owns e f) (just f) m) (an-edit-leaves-other-nodes-fields e fs h)))
+    where
+      not-hers : (o : MaybeId) (e : NodeId) → isId o d ≡ true → sameId d e ≡ false → isId o e ≡ false
+      not-hers Absent e b h = refl
+      not-hers (Present x) e b h = ap (λ (y : NodeId). sameId y e) (one-id-is-the-other x d b) ∙ h
+
+  pub an-edit-keeps-what-each-id-owns : (e : NodeId) (fs : List Field) → owned e (changeFirst (owns d) c fs) ≡ owned e fs
+  an-edit-keeps-what-each-id-owns e [] = refl
+  an-edit-keeps-what-each-id-owns e (f ∷ fs) =
+      bool-cases (owns d f)
+      (λ b. rw (b, owns-edited e f))
+      (λ b. rw b (ap (λ (m : ℕ). bit (owns e f) + m) (an-edit-keeps-what-each-id-owns e fs)))
+
+  pub an-edit-keeps-owners-apart : (fs : List Field) → ownersWell fs ≡ true → ownersWell (changeFirst (owns d) c fs) ≡ true
+  an-edit-keeps-owners-apart fs e =
+      owners-are-well-if-each-owns-one-at-most (changeFirst (owns d) c fs) (λ x. let a = each-id-owns-one-at-most fs e x in let b = an-edit-keeps-what-each-id-owns x fs in omega arith)
