@@ -22,3 +22,4 @@ pub mod RefreshLaws
 pub mod DressLaws
 pub mod WellLaws
 pub mod FieldLaws
+pub mod NameLaws

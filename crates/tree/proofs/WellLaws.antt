@@ -14,9 +14,10 @@ use Rattle.field.specs.declared.NodeId.{NodeId}
 use Rattle.field.specs.declared.MaybeId.{MaybeId}
 use Rattle.tree.specs.Tests.{pick, same, occ, all, fromTo}
 use Rattle.tree.specs.Styles.{noPatch, noState, freshTable, freshState, bareState, layoutAt, stateAt}
-use Rattle.tree.specs.Trees.{limitOf, poolOf, statedOf, withLooks, withStated}
+use Rattle.tree.specs.Trees.{limitOf, poolOf, statedOf, withLooks, withStated, withPool}
 use Rattle.tree.specs.States.{Looks, looksOf, entryOf, inPool, wearing, wearAll, isId, bitsOf, bitsAt, based, tabled, styledAt, tabledAt, bared, bareAll, refreshed, backwards}
 use Rattle.tree.specs.Rules.{stateWell}
+use Rattle.tree.specs.Calls.{pooled}
 use Rattle.tree.specs.declared.Ui.{Ui}
 use Rattle.tree.specs.declared.Style.{Style}
 use Rattle.tree.specs.declared.StateSlot.{StateSlot}
@@ -140,6 +141,10 @@ bare-slots-are-well count n k m o j h =
     subst (λ (k′ : Looks). stateWell count (stateAt (k′ .states) j) ≡ true) (sym (bare-all-is-a-round k is))
     (ap (λ (e : Look). stateWell count (e .state)) (a-slot-visited-is-changed bareStep k is (λ i z. let b = occurs-below n i z in omega arith) o j (omega arith))
     ∙ a-bare-slot-is-well count (stateAt (k .states) j .base))
+
+pub a-tree-with-a-new-pool-is-well : (u : Ui) (patches : List StatePatch) (count : ℕ) → limitOf u ≤ 128 → Sized (looksOf u) → StatesWell count (limitOf u) (pooled u patches count .states)
+unfolding pooled withPool withLooks
+a-tree-with-a-new-pool-is-well u patches count m o = bare-slots-are-well count (limitOf u) (looksOf u) m o
 
 one-slot-well : (count n : ℕ) (change : Look → Look) (moves : Look → Bool) (k k′ : Looks) (i : ℕ) → Stepped change moves k i k′ → ((e : Look) → stateWell count (e .state) ≡ true → stateWell count (change e .state) ≡ true)
     → StatesWell count n (k .states) → StatesWell count n (k′ .states)
