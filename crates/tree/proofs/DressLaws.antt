@@ -1,10 +1,9 @@
 -- A style or a table given to one slot is given to the node that has the id: the slot is the node's, since an id finds its node by the
 -- index alone, and no other slot changes. Assumes nothing.
 use mathlib.Core.Path.{_≡_, refl, sym, ap, _∙_, subst}
-use mathlib.Core.Logic.{_≢_}
 use mathlib.Core.Bool.{Bool, true, false, not, _||_, _&&_}
-use mathlib.Core.List.{List, [], _∷_}
-use Prim.Native.Nat.{ℕ, _+_, _≤_, _<_}
+use mathlib.Core.List.{List, []}
+use Prim.Native.Nat.{ℕ, _<_}
 use native.Mathlib.Omega.{arith}
 use lib.ListN.{set}
 use Rattle.field.specs.declared.NodeId.{NodeId}
@@ -12,16 +11,15 @@ use Rattle.tree.specs.Tests.{pick, same}
 use Rattle.tree.specs.Slots.{Slots, at}
 use Rattle.tree.specs.Styles.{noPatch, freshState, layoutAt, stateAt}
 use Rattle.tree.specs.Trees.{limitOf, poolOf, statedOf, withLooks, withPool}
-use Rattle.tree.specs.States.{Looks, looksOf, entryOf, wear, withStyle, styledAt, based, tabledAt, tabled}
+use Rattle.tree.specs.States.{Looks, looksOf, entryOf, withStyle, styledAt, based, tabledAt, tabled}
 use Rattle.tree.specs.Forest.{Forest, nil, node, mapF, anyF, hasBoth, hasId}
 use Rattle.tree.specs.Nodes.{Info, changeOf, wears, swaps, restyled, withTable, bare}
 use Rattle.tree.specs.Calls.{pooled}
 use Rattle.tree.specs.declared.Ui.{Ui}
 use Rattle.tree.specs.declared.Style.{Style}
-use Rattle.tree.specs.declared.Rect.{Rect}
 use Rattle.tree.specs.declared.StateSlot.{StateSlot}
 use Rattle.tree.specs.declared.StatePatch.{StatePatch}
-use Rattle.tree.proofs.TestLaws.{same-yes, same-refl, eq-cases, bool-cases}
+use Rattle.tree.proofs.TestLaws.{same-refl, eq-cases, bool-cases}
 use Rattle.tree.proofs.ForestLaws.{cnt}
 use Rattle.tree.proofs.Relations.{Rel, below}
 use Rattle.tree.proofs.Payloads.{AllF, all-map, all-both, all-mapF, all-at, any-cases}

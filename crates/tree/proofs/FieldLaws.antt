@@ -2,12 +2,11 @@
 -- field is vacant after the clearing or some live node's: so none is vacant just where as many live nodes have a field as there are
 -- fields. Assumes nothing.
 use mathlib.Core.Path.{_≡_, refl, sym, ap, _∙_, subst}
-use mathlib.Core.Logic.{_≢_}
-use mathlib.Core.Bool.{Bool, true, false, not, _||_, _&&_}
-use mathlib.Core.List.{List, [], _∷_, map}
-use Prim.Native.Nat.{ℕ, zero, suc, _+_, _≤_, _<_}
+use mathlib.Core.Bool.{Bool, true, false, not, _&&_}
+use mathlib.Core.List.{List, [], _∷_}
+use Prim.Native.Nat.{ℕ, suc, _+_, _≤_, _<_}
 use native.Mathlib.Omega.{arith}
-use lib.ListN.{length, replicate}
+use lib.ListN.{length}
 use Rattle.text.proofs.Picks.{and-left, and-right}
 use Rattle.field.specs.Text.{Text, text}
 use Rattle.field.specs.Fields.{emptyField, fieldOk, inRange, textOf}

@@ -1,21 +1,20 @@
 -- An id and a name that mean the same node mean it at every node: each is that of one node at most, and there is a node with both, so to
 -- have the one is to have the other. So a node's bits by ids are its bits by names. Assumes nothing.
 use mathlib.Core.Path.{_≡_, refl, sym, ap, _∙_, subst}
-use mathlib.Core.Logic.{_≢_}
-use mathlib.Core.Bool.{Bool, true, false, _||_, _&&_}
-use mathlib.Core.List.{List, [], _∷_}
-use Prim.Native.Nat.{ℕ, zero, suc, _+_, _≤_, _<_}
+use mathlib.Core.Bool.{Bool, true, false, _&&_}
+use mathlib.Core.List.{List}
+use Prim.Native.Nat.{ℕ, _≤_, _<_}
 use native.Mathlib.Omega.{arith}
 use Rattle.field.specs.declared.NodeId.{NodeId}
 use Rattle.field.specs.declared.MaybeId.{MaybeId}
-use Rattle.field.specs.declared.MaybeId.the-variants.{Absent, Present}
-use Rattle.tree.specs.Tests.{pick, same, δ, Maybe, nothing, just}
+use Rattle.field.specs.declared.MaybeId.the-variants.{Present}
+use Rattle.tree.specs.Tests.{same, Maybe, just}
 use Rattle.tree.specs.Slots.{Slots, at, idAt}
 use Rattle.tree.specs.States.{isId, sameId, bitsOf, bitsAt}
 use Rattle.tree.specs.Forest.{Forest, nil, node, hasBoth, hasId, mapF}
 use Rattle.tree.specs.Nodes.{Info, bit, isNamed, bitsFor}
 use Rattle.tree.specs.declared.Ui.{Ui}
-use Rattle.tree.proofs.TestLaws.{same-yes, same-no, δ-same, eq-cases, zero-cases, bool-cases}
+use Rattle.tree.proofs.TestLaws.{same-yes, same-no, zero-cases, bool-cases}
 use Rattle.tree.proofs.ForestLaws.{cnt, wt}
 use Rattle.tree.proofs.Relations.{Rel}
 use Rattle.tree.proofs.Payloads.{AllF, all-map, all-both}

@@ -2,15 +2,13 @@
 -- it: behind the queue's front every wanted size is right, and before it every parent's children stand where the parent puts them.
 -- Assumes nothing.
 use mathlib.Core.Path.{_≡_, refl, sym, ap, _∙_, subst}
-use mathlib.Core.Logic.{_≢_}
-use mathlib.Core.Bool.{Bool, true, false}
-use mathlib.Core.List.{List, [], _∷_, _++_, map}
-use Prim.Native.Nat.{ℕ, zero, suc, _+_, _≤_, _<_}
+use mathlib.Core.List.{List, [], _∷_, map}
+use Prim.Native.Nat.{ℕ, zero, suc, _≤_, _<_}
 use native.Mathlib.Omega.{arith}
 use lib.IntN.{ℤ}
-use lib.ListN.{length, getD, set, length-set}
-use Rattle.tree.specs.Tests.{pick, same, δ, occ}
-use Rattle.tree.specs.Slots.{NIL, Slots, at, kidsAt, order}
+use lib.ListN.{length, set, length-set}
+use Rattle.tree.specs.Tests.{occ}
+use Rattle.tree.specs.Slots.{NIL, Slots, kidsAt, order}
 use Rattle.tree.specs.Styles.{layoutAt}
 use Rattle.tree.specs.Layout.{Extent, Child, want, place, boxes, seen, withWants, withRect, measureAt, measureAll, setRects, arrangeAt, arrangeAll, viewRect, passed}
 use Rattle.tree.specs.Forest.{Forest, nil, node, app, size}

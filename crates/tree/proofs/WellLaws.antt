@@ -1,32 +1,29 @@
 -- What slots wear keeps to the rules: a table's entries are in the pool, so that what is worn of it is, and three bits make at most 7.
 -- Assumes nothing.
 use mathlib.Core.Path.{_≡_, refl, sym, ap, _∙_, subst}
-use mathlib.Core.Logic.{_≢_}
-use mathlib.Core.Bool.{Bool, true, false, not, _||_, _&&_}
+use mathlib.Core.Bool.{Bool, true, false, _&&_}
 use mathlib.Core.List.{List, [], _∷_, _++_}
-use Prim.Native.Nat.{ℕ, zero, suc, _+_, _%_, _≤_, _<_}
+use Prim.Native.Nat.{ℕ, zero, suc, _%_, _≤_, _<_}
 use native.Mathlib.Omega.{arith}
 use borrow.Author.Tests.{leb-true, le-leb}
-use lib.Dec.{ltb, leb}
-use lib.ListN.{length, getD, take, set, replicate}
+use lib.Dec.{leb}
+use lib.ListN.{length, getD, take, replicate}
 use Rattle.text.proofs.Picks.{and-left, and-right}
-use Rattle.field.specs.declared.NodeId.{NodeId}
 use Rattle.field.specs.declared.MaybeId.{MaybeId}
-use Rattle.tree.specs.Tests.{pick, same, occ, all, fromTo}
-use Rattle.tree.specs.Styles.{noPatch, noState, freshTable, freshState, bareState, layoutAt, stateAt}
+use Rattle.tree.specs.Tests.{occ, all, fromTo}
+use Rattle.tree.specs.Styles.{noPatch, noState, freshTable, bareState, stateAt}
 use Rattle.tree.specs.Trees.{limitOf, poolOf, statedOf, withLooks, withStated, withPool}
-use Rattle.tree.specs.States.{Looks, looksOf, entryOf, inPool, wearing, wearAll, isId, bitsOf, bitsAt, based, tabled, styledAt, tabledAt, bared, bareAll, refreshed, backwards}
+use Rattle.tree.specs.States.{Looks, looksOf, entryOf, inPool, wearing, wearAll, bitsOf, bitsAt, based, tabled, styledAt, tabledAt, bareAll, refreshed, backwards}
 use Rattle.tree.specs.Rules.{stateWell}
 use Rattle.tree.specs.Calls.{pooled}
 use Rattle.tree.specs.declared.Ui.{Ui}
 use Rattle.tree.specs.declared.Style.{Style}
 use Rattle.tree.specs.declared.StateSlot.{StateSlot}
 use Rattle.tree.specs.declared.StatePatch.{StatePatch}
-use Rattle.tree.proofs.TestLaws.{same-refl, eq-cases, zero-cases, bool-cases}
-use Rattle.tree.proofs.FreeOrders.{occ-append}
+use Rattle.tree.proofs.TestLaws.{same-refl, eq-cases, zero-cases}
 use Rattle.tree.proofs.Starts.{occ-within}
 use Rattle.tree.proofs.RuleLaws.{both-true, occurs-below}
-use Rattle.tree.proofs.Rounds.{Look, lookAt, Sized, Stepped, Stepping, visit, Inside, a-slot-not-visited-stays, a-slot-visited-is-changed}
+use Rattle.tree.proofs.Rounds.{Look, lookAt, Sized, Stepped, Stepping, Inside, a-slot-not-visited-stays, a-slot-visited-is-changed}
 use Rattle.tree.proofs.WearLaws.{wearStep, bareStep, wear-all-is-a-round, bare-all-is-a-round}
 use Rattle.tree.proofs.RefreshLaws.{three, the-slots-of-a-refresh-are-below-the-limit}
 use Rattle.tree.proofs.DressLaws.{style-step, table-step}
