@@ -1,32 +1,31 @@
 -- A style or a table given to one slot is given to the node that has the id: the slot is the node's, since an id finds its node by the
 -- index alone, and no other slot changes. Assumes nothing.
 use mathlib.Core.Path.{_≡_, refl, sym, ap, _∙_, subst}
-use mathlib.Core.Logic.{_≢_}
-use mathlib.Core.Bool.{Bool, true, false, _||_, _&&_}
-use mathlib.Core.List.{List, [], _∷_}
-use Prim.Native.Nat.{ℕ, _+_, _≤_, _<_}
+use mathlib.Core.Bool.{Bool, true, false, not, _||_, _&&_}
+use mathlib.Core.List.{List, []}
+use Prim.Native.Nat.{ℕ, _<_}
 use native.Mathlib.Omega.{arith}
 use lib.ListN.{set}
 use Rattle.field.specs.declared.NodeId.{NodeId}
 use Rattle.tree.specs.Tests.{pick, same}
 use Rattle.tree.specs.Slots.{Slots, at}
-use Rattle.tree.specs.Styles.{noPatch, layoutAt, stateAt}
-use Rattle.tree.specs.Trees.{poolOf, withLooks}
-use Rattle.tree.specs.States.{Looks, looksOf, entryOf, wear, withStyle, styledAt, based, tabledAt, tabled}
-use Rattle.tree.specs.Forest.{Forest, mapF, anyF, hasBoth, hasId}
-use Rattle.tree.specs.Nodes.{Info, changeOf, wears, swaps, restyled, withTable}
+use Rattle.tree.specs.Styles.{noPatch, freshState, layoutAt, stateAt}
+use Rattle.tree.specs.Trees.{limitOf, poolOf, statedOf, withLooks, withPool}
+use Rattle.tree.specs.States.{Looks, looksOf, entryOf, withStyle, styledAt, based, tabledAt, tabled}
+use Rattle.tree.specs.Forest.{Forest, nil, node, mapF, anyF, hasBoth, hasId}
+use Rattle.tree.specs.Nodes.{Info, changeOf, wears, swaps, restyled, withTable, bare}
+use Rattle.tree.specs.Calls.{pooled}
 use Rattle.tree.specs.declared.Ui.{Ui}
 use Rattle.tree.specs.declared.Style.{Style}
-use Rattle.tree.specs.declared.Rect.{Rect}
 use Rattle.tree.specs.declared.StateSlot.{StateSlot}
 use Rattle.tree.specs.declared.StatePatch.{StatePatch}
-use Rattle.tree.proofs.TestLaws.{same-yes, same-refl, eq-cases, bool-cases}
+use Rattle.tree.proofs.TestLaws.{same-refl, eq-cases, bool-cases}
 use Rattle.tree.proofs.ForestLaws.{cnt}
 use Rattle.tree.proofs.Relations.{Rel, below}
 use Rattle.tree.proofs.Payloads.{AllF, all-map, all-both, all-mapF, all-at, any-cases}
 use Rattle.tree.proofs.Ids.{id-by-index, live-id, nodes-have-their-slots-generation}
 use Rattle.tree.proofs.Rounds.{Look, lookAt, lookOf, Worn, worn-is-one-look, one-look-is-worn, Sized, Stepped, or-true, or-false}
-use Rattle.tree.proofs.WearLaws.{Redressed, TablesWorn, wearLook, wearMoves, to-wear-changes-one-slot, a-state-is-stored, a-state-and-a-style-are-stored}
+use Rattle.tree.proofs.WearLaws.{Redressed, TablesWorn, wearLook, wearMoves, to-wear-changes-one-slot, a-state-is-stored, a-state-and-a-style-are-stored, all-slots-bare-is-every-node-bare}
 
 -- ---- one node changed
 
@@ -171,3 +170,20 @@ pub a-tabled-node-wears-what-its-table-has : (d : NodeId) (pool : List StatePatc
 unfolding wears
 a-tabled-node-wears-what-its-table-has d pool table t w =
     changing-one-node-keeps (λ i g x. x .applied ≡ entryOf (x .table) (x .bits)) d (λ x. wears pool (x .bits) (withTable table x)) t (λ i g x p. refl) w
+
+-- ---- a new pool
+
+pub a-new-pool-bares-every-node : {free : ℕ} {t : Forest Info} {fl : List ℕ} (u : Ui) (patches : List StatePatch) (count : ℕ) → Rel (limitOf u) (u .slots) free t fl → Sized (looksOf u)
+    → AllF (λ i g x. Worn (u .layout) (u .states) i x) t → ((j : ℕ) → j < limitOf u → cnt j t ≡ 0 → stateAt (u .states) j ≡ freshState)
+    → Redressed (looksOf u) (looksOf (pooled u patches count)) t (mapF (λ i g x. bare x) t) (anyF (λ i g x. not (same (x .applied) noPatch)) t)
+unfolding pooled withPool withLooks
+a-new-pool-bares-every-node {t = t} u patches count r o w fr = all-slots-bare-is-every-node-bare (looksOf u) (limitOf u) t (r .small) o (λ j c. below r j (omega arith)) w fr
+
+pub a-new-pool-states-no-slot : (u : Ui) (patches : List StatePatch) (count : ℕ) → statedOf (pooled u patches count) ≡ []
+unfolding pooled withPool withLooks
+a-new-pool-states-no-slot u patches count = refl
+
+pub bare-nodes-have-no-bits : (t : Forest Info) → AllF (λ i g x. x .bits ≡ 0) (mapF (λ i g x. bare x) t)
+unfolding bare
+bare-nodes-have-no-bits nil = tt
+bare-nodes-have-no-bits (node i g x cs sib) = (refl, bare-nodes-have-no-bits cs, bare-nodes-have-no-bits sib)

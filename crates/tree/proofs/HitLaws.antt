@@ -1,15 +1,15 @@
 -- The hit test over the slots names the node that the forest's recursion names. On both sides each child whose box holds the pixel takes
 -- the place of those before it; the slots' descent goes to the last one at once, and stays where there is none. Assumes nothing.
 use mathlib.Core.Path.{_≡_, refl, sym, ap, _∙_, subst}
-use mathlib.Core.Logic.{_≢_, _⊎_, inl, inr}
+use mathlib.Core.Logic.{_⊎_, inl, inr}
 use mathlib.Core.Bool.{Bool, true, false}
-use mathlib.Core.List.{List, [], _∷_, _++_}
-use Prim.Native.Nat.{ℕ, zero, suc, _+_, _≤_, _<_}
+use mathlib.Core.List.{List}
+use Prim.Native.Nat.{ℕ, zero, suc, _≤_, _<_}
 use native.Mathlib.Omega.{arith}
 use Rattle.field.specs.declared.NodeId.{NodeId}
 use Rattle.field.specs.declared.MaybeId.{MaybeId}
 use Rattle.field.specs.declared.MaybeId.the-variants.{Absent, Present}
-use Rattle.tree.specs.Tests.{pick, same, δ, Maybe, nothing, just}
+use Rattle.tree.specs.Tests.{pick, Maybe, nothing, just}
 use Rattle.tree.specs.Slots.{NIL, Slots, at, idAt, kidsAt}
 use Rattle.tree.specs.Styles.{layoutAt}
 use Rattle.tree.specs.Layout.{holds}
@@ -18,7 +18,6 @@ use Rattle.tree.specs.Forest.{Forest, nil, node, size}
 use Rattle.tree.specs.Nodes.{Info, hitF}
 use Rattle.tree.specs.declared.Ui.{Ui}
 use Rattle.tree.specs.declared.Slot.{Slot}
-use Rattle.tree.specs.declared.Rect.{Rect}
 use Rattle.tree.specs.declared.Pointer.{Pointer}
 use Rattle.tree.proofs.TestLaws.{δ-refl, bool-cases}
 use Rattle.tree.proofs.ForestLaws.{firstOr, cnt}

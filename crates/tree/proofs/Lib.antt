@@ -21,6 +21,7 @@ pub mod HitLaws
 pub mod RefreshLaws
 pub mod DressLaws
 pub mod WellLaws
+pub mod FieldLaws
 pub mod Parts
 pub mod ShapeParts
 pub mod LookParts

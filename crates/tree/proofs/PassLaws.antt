@@ -2,15 +2,13 @@
 -- it: behind the queue's front every wanted size is right, and before it every parent's children stand where the parent puts them.
 -- Assumes nothing.
 use mathlib.Core.Path.{_≡_, refl, sym, ap, _∙_, subst}
-use mathlib.Core.Logic.{_≢_}
-use mathlib.Core.Bool.{Bool, true, false}
-use mathlib.Core.List.{List, [], _∷_, _++_, map}
-use Prim.Native.Nat.{ℕ, zero, suc, _+_, _≤_, _<_}
+use mathlib.Core.List.{List, [], _∷_, map}
+use Prim.Native.Nat.{ℕ, zero, suc, _≤_, _<_}
 use native.Mathlib.Omega.{arith}
 use lib.IntN.{ℤ}
-use lib.ListN.{length, getD, set, length-set}
-use Rattle.tree.specs.Tests.{pick, same, δ, occ}
-use Rattle.tree.specs.Slots.{NIL, Slots, at, kidsAt, order}
+use lib.ListN.{length, set, length-set}
+use Rattle.tree.specs.Tests.{occ}
+use Rattle.tree.specs.Slots.{NIL, Slots, kidsAt, order}
 use Rattle.tree.specs.Styles.{layoutAt}
 use Rattle.tree.specs.Layout.{Extent, Child, want, place, boxes, seen, withWants, withRect, measureAt, measureAll, setRects, arrangeAt, arrangeAll, viewRect, passed}
 use Rattle.tree.specs.Forest.{Forest, nil, node, app, size}
@@ -19,12 +17,13 @@ use Rattle.tree.specs.declared.Style.{Style}
 use Rattle.tree.specs.declared.Rect.{Rect}
 use Rattle.tree.specs.declared.Viewport.{Viewport}
 use Rattle.tree.specs.declared.LayoutSlot.{LayoutSlot}
+use Rattle.tree.specs.declared.StateSlot.{StateSlot}
 use Rattle.tree.proofs.TestLaws.{δ-refl, δ-same, eq-cases}
-use Rattle.tree.proofs.ForestLaws.{cnt, top, cnt-app, top-app, size-app, top-le-cnt, ne-by}
+use Rattle.tree.proofs.ForestLaws.{cnt, top, wt, cnt-app, top-app, size-app, top-le-cnt, ne-by}
 use Rattle.tree.proofs.Relations.{Rel, once}
 use Rattle.tree.proofs.Payloads.{AllF, all-map, all-app, shape}
 use Rattle.tree.proofs.Orders.{tops, bfs, InRange, KidR, seg-kid, kid-app, occ-tops, kids-tops, order-bfs, rel-in-range, rel-size, tops-of-the-tree}
-use Rattle.tree.proofs.Rounds.{a-layout-store-keeps}
+use Rattle.tree.proofs.Rounds.{Worn, a-layout-store-keeps}
 use Rattle.tree.proofs.WearLaws.{a-stored-layout-is-there, other-layouts-stay}
 
 -- ---- as many boxes as children
@@ -306,3 +305,16 @@ placing-keeps-the-shape (node i g x cs sib) (r ∷ rs) =
     let I = placing-keeps-the-shape cs (place (x .style) r (wantsF cs)) in
     let J = placing-keeps-the-shape sib rs in
     λ z. node i g tt (I z) (J z)
+
+pub placing-keeps-sums : (w : ℕ → ℕ → Info → ℕ) → ((i g : ℕ) (x : Info) (r : Rect) → w i g (withBox x r) ≡ w i g x) → (f : Forest Info) (rs : List Rect) → wt w (placeF f rs) ≡ wt w f
+placing-keeps-sums w h nil rs = refl
+placing-keeps-sums w h (node i g x cs sib) [] = refl
+placing-keeps-sums w h (node i g x cs sib) (r ∷ rs) =
+    let e = h i g x r in let I = placing-keeps-sums w h cs (place (x .style) r (wantsF cs)) in let J = placing-keeps-sums w h sib rs in omega arith
+
+-- a pass leaves what is worn
+pub a-pass-leaves-what-is-worn : (l l′ : List LayoutSlot) (states : List StateSlot) (t : Forest Info) (v : Viewport) → PassOver l l′ t v
+    → AllF (λ i g x. Worn l states i x) t → AllF (λ i g x. Worn l′ states i x) (placeF t (viewRect v ∷ []))
+a-pass-leaves-what-is-worn l l′ states t v p w =
+    all-map (λ i g x. Worn l states i x) (λ i g x. Worn l′ states i x) (placeF t (viewRect v ∷ [])) (λ i g x _ q. (p .styles i ∙ q .0, q .1))
+    (placing-keeps-what-boxes-leave-alone (λ i g x. Worn l states i x) (λ i g x r q. q) t (viewRect v ∷ []) w)

@@ -8,27 +8,27 @@ use Prim.Native.Nat.{ℕ, zero, suc, _+_, _≤_, _<_}
 use native.Mathlib.Omega.{arith}
 use borrow.Author.Tests.{ltb-true, lt-ltb}
 use lib.Dec.{ltb}
-use lib.ListN.{length, take, drop, length-append, length-drop}
+use lib.ListN.{length, drop, length-append, length-drop}
 use lib.Seq.{take-append-seam}
 use Rattle.field.specs.declared.NodeId.{NodeId}
 use Rattle.field.specs.declared.MaybeId.{MaybeId}
 use Rattle.field.specs.declared.MaybeId.the-variants.{Absent, Present}
 use Rattle.tree.specs.Tests.{pick, same, δ, occ}
-use Rattle.tree.specs.Slots.{Slots, at, isLive, idAt}
+use Rattle.tree.specs.Slots.{at, isLive, idAt}
 use Rattle.tree.specs.Styles.{freshState, stateAt}
-use Rattle.tree.specs.Trees.{limitOf, poolOf, statedOf, over, withLooks, withStated}
-use Rattle.tree.specs.States.{Looks, looksOf, wearAll, isId, sameId, bitsOf, bitsAt, slotIn, bearing, backwards, refreshed}
+use Rattle.tree.specs.Trees.{limitOf, poolOf, statedOf, withLooks, withStated}
+use Rattle.tree.specs.States.{looksOf, isId, bitsOf, bitsAt, slotIn, bearing, backwards, refreshed}
 use Rattle.tree.specs.Rules.{distinct}
-use Rattle.tree.specs.Forest.{Forest, nil, node, mapF, anyF, hasId}
+use Rattle.tree.specs.Forest.{Forest, mapF, anyF}
 use Rattle.tree.specs.Nodes.{Info, wears, swaps}
 use Rattle.tree.specs.declared.Ui.{Ui}
-use Rattle.tree.proofs.TestLaws.{same-yes, same-no, same-refl, δ-refl, δ-same, eq-cases, zero-cases, bool-cases}
+use Rattle.tree.proofs.TestLaws.{same-yes, same-no, δ-refl, δ-same, eq-cases, zero-cases, bool-cases}
 use Rattle.tree.proofs.ForestLaws.{cnt}
-use Rattle.tree.proofs.Relations.{Rel, below}
+use Rattle.tree.proofs.Relations.{Rel}
 use Rattle.tree.proofs.Payloads.{AllF, all-map, all-mapF}
 use Rattle.tree.proofs.FreeOrders.{occ-append}
 use Rattle.tree.proofs.Ids.{live-just-where-a-node-has-it, slots-id-is-live}
-use Rattle.tree.proofs.Rounds.{Worn, Sized, Inside}
+use Rattle.tree.proofs.Rounds.{Worn, Sized}
 use Rattle.tree.proofs.WearLaws.{Redressed, TablesWorn, all-slots-wearing-is-every-node-wearing}
 
 -- ---- lists of slots without repetition

@@ -3,22 +3,21 @@
 use mathlib.Core.Path.{_≡_, refl, sym, ap, _∙_, subst}
 use mathlib.Core.Logic.{_≢_}
 use mathlib.Core.Bool.{Bool, true, false, _||_}
-use mathlib.Core.List.{List, [], _∷_, _++_}
-use Prim.Native.Nat.{ℕ, zero, suc, _+_, _≤_, _<_}
+use mathlib.Core.List.{List, [], _∷_}
+use Prim.Native.Nat.{ℕ, _<_}
 use native.Mathlib.Omega.{arith}
 use native.Mathlib.Decide.{decLt}
 use lib.ListN.{length, getD, set}
 use lib.Seq.{getD-set-same, getD-set-other, set-out}
-use Rattle.tree.specs.Tests.{pick, same, δ, occ}
+use Rattle.tree.specs.Tests.{occ}
 use Rattle.tree.specs.Styles.{noLayout, layoutAt, stateAt}
 use Rattle.tree.specs.States.{Looks}
-use Rattle.tree.specs.Forest.{Forest, nil, node, mapF, anyF}
+use Rattle.tree.specs.Forest.{Forest, mapF, anyF}
 use Rattle.tree.specs.Nodes.{Info}
 use Rattle.tree.specs.declared.Style.{Style}
-use Rattle.tree.specs.declared.Rect.{Rect}
 use Rattle.tree.specs.declared.LayoutSlot.{LayoutSlot}
 use Rattle.tree.specs.declared.StateSlot.{StateSlot}
-use Rattle.tree.proofs.TestLaws.{δ-refl, δ-same, eq-cases, zero-cases, bool-cases}
+use Rattle.tree.proofs.TestLaws.{δ-refl, δ-same, eq-cases, zero-cases}
 use Rattle.tree.proofs.ForestLaws.{cnt}
 use Rattle.tree.proofs.Payloads.{AllF, all-map, all-both, all-mapF, all-at, any-cases}
 

@@ -3,32 +3,29 @@
 use mathlib.Core.Path.{_≡_, refl, sym, ap, _∙_, subst}
 use mathlib.Core.Logic.{_≢_}
 use mathlib.Core.Bool.{Bool, true, false, not, _||_, _&&_}
-use mathlib.Core.List.{List, [], _∷_, _++_}
-use Prim.Native.Nat.{ℕ, zero, suc, _+_, _%_, _≤_, _<_}
+use mathlib.Core.List.{List, [], _∷_}
+use Prim.Native.Nat.{ℕ, zero, suc, _%_, _≤_, _<_}
 use native.Mathlib.Omega.{arith}
-use native.Mathlib.Decide.{decLt}
 use lib.ListN.{length, getD, set, replicate, length-set}
 use lib.Seq.{getD-set-same, getD-set-other}
-use Rattle.field.specs.declared.NodeId.{NodeId}
 use Rattle.field.specs.declared.MaybeId.{MaybeId}
-use Rattle.tree.specs.Tests.{pick, same, δ, occ, fromTo}
+use Rattle.tree.specs.Tests.{pick, same, occ, fromTo}
 use Rattle.tree.specs.Styles.{noPatch, noLayout, noState, freshTable, freshState, bareState, layoutAt, stateAt}
-use Rattle.tree.specs.Trees.{poolOf, withLooks}
-use Rattle.tree.specs.States.{Looks, looksOf, entryOf, patchStyle, touches, wear, wearing, withStyle, wearAll, bitsAt, styledAt, based, tabledAt, tabled, bared, bareAll}
-use Rattle.tree.specs.Forest.{Forest, nil, node, mapF, anyF, hasBoth}
-use Rattle.tree.specs.Nodes.{Info, changeOf, wears, swaps, restyled, withTable, bare}
+use Rattle.tree.specs.Trees.{poolOf}
+use Rattle.tree.specs.States.{Looks, entryOf, patchStyle, touches, wear, wearing, withStyle, wearAll, bitsAt, bared, bareAll}
+use Rattle.tree.specs.Forest.{Forest, nil, node, mapF, anyF}
+use Rattle.tree.specs.Nodes.{Info, wears, swaps, bare}
 use Rattle.tree.specs.declared.Ui.{Ui}
 use Rattle.tree.specs.declared.Style.{Style}
-use Rattle.tree.specs.declared.Rect.{Rect}
 use Rattle.tree.specs.declared.LayoutSlot.{LayoutSlot}
 use Rattle.tree.specs.declared.StateSlot.{StateSlot}
 use Rattle.tree.specs.declared.StatePatch.{StatePatch}
-use Rattle.tree.proofs.TestLaws.{same-yes, same-refl, δ-refl, δ-same, eq-cases, zero-cases, bool-cases}
+use Rattle.tree.proofs.TestLaws.{same-yes, same-refl, zero-cases, bool-cases}
 use Rattle.tree.proofs.ForestLaws.{cnt}
-use Rattle.tree.proofs.Payloads.{AllF, all-map, all-both, all-mapF, all-at, any-cases}
+use Rattle.tree.proofs.Payloads.{AllF, all-map, all-both}
 use Rattle.tree.proofs.Starts.{occ-within}
 use Rattle.tree.proofs.RuleLaws.{occurs-below}
-use Rattle.tree.proofs.Rounds.{Look, lookAt, stateOf, lookOf, Worn, worn-is-one-look, one-look-is-worn, Sized, a-layout-store-keeps, Stepped, Stepping, visit, Inside, or-true, or-false, Met, a-round-keeps-lengths, a-round-keeps-rects, a-slot-not-visited-stays, a-slot-visited-is-changed, a-round-is-a-change-of-every-node, a-pass-is-due-where-a-node-moved}
+use Rattle.tree.proofs.Rounds.{Look, lookAt, lookOf, Worn, Sized, a-layout-store-keeps, Stepped, Stepping, visit, Inside, or-true, or-false, Met, a-round-keeps-lengths, a-round-keeps-rects, a-slot-not-visited-stays, a-slot-visited-is-changed, a-round-is-a-change-of-every-node, a-pass-is-due-where-a-node-moved}
 
 -- ---- stores
 

@@ -1,49 +1,40 @@
 -- What slots wear keeps to the rules: a table's entries are in the pool, so that what is worn of it is, and three bits make at most 7.
 -- Assumes nothing.
 use mathlib.Core.Path.{_≡_, refl, sym, ap, _∙_, subst}
-use mathlib.Core.Logic.{_≢_}
-use mathlib.Core.Bool.{Bool, true, false, not, _||_, _&&_}
+use mathlib.Core.Bool.{Bool, true, false, _&&_}
 use mathlib.Core.List.{List, [], _∷_, _++_}
-use Prim.Native.Nat.{ℕ, zero, suc, _+_, _%_, _≤_, _<_}
+use Prim.Native.Nat.{ℕ, zero, suc, _%_, _≤_, _<_}
 use native.Mathlib.Omega.{arith}
 use borrow.Author.Tests.{leb-true, le-leb}
-use lib.Dec.{ltb, leb}
-use lib.ListN.{length, getD, take, set, replicate}
-use Rattle.field.specs.declared.NodeId.{NodeId}
+use lib.Dec.{leb}
+use lib.ListN.{length, getD, take, replicate}
+use Rattle.text.proofs.Picks.{and-left, and-right}
 use Rattle.field.specs.declared.MaybeId.{MaybeId}
-use Rattle.tree.specs.Tests.{pick, same, occ, all, fromTo}
-use Rattle.tree.specs.Styles.{noPatch, noState, freshTable, freshState, bareState, layoutAt, stateAt}
-use Rattle.tree.specs.Trees.{limitOf, poolOf, statedOf, withLooks, withStated}
-use Rattle.tree.specs.States.{Looks, looksOf, entryOf, inPool, wearing, wearAll, isId, bitsOf, bitsAt, based, tabled, styledAt, tabledAt, bared, bareAll, refreshed, backwards}
+use Rattle.tree.specs.Tests.{occ, all, fromTo}
+use Rattle.tree.specs.Styles.{noPatch, noState, freshTable, bareState, stateAt}
+use Rattle.tree.specs.Trees.{limitOf, poolOf, statedOf, withLooks, withStated, withPool}
+use Rattle.tree.specs.States.{Looks, looksOf, entryOf, inPool, wearing, wearAll, bitsOf, bitsAt, based, tabled, styledAt, tabledAt, bareAll, refreshed, backwards}
 use Rattle.tree.specs.Rules.{stateWell}
+use Rattle.tree.specs.Calls.{pooled}
 use Rattle.tree.specs.declared.Ui.{Ui}
 use Rattle.tree.specs.declared.Style.{Style}
 use Rattle.tree.specs.declared.StateSlot.{StateSlot}
 use Rattle.tree.specs.declared.StatePatch.{StatePatch}
-use Rattle.tree.proofs.TestLaws.{same-refl, eq-cases, zero-cases, bool-cases}
-use Rattle.tree.proofs.FreeOrders.{occ-append}
+use Rattle.tree.proofs.TestLaws.{same-refl, eq-cases, zero-cases}
 use Rattle.tree.proofs.Starts.{occ-within}
 use Rattle.tree.proofs.RuleLaws.{both-true, occurs-below}
-use Rattle.tree.proofs.Rounds.{Look, lookAt, Sized, Stepped, Stepping, visit, Inside, a-slot-not-visited-stays, a-slot-visited-is-changed}
+use Rattle.tree.proofs.Rounds.{Look, lookAt, Sized, Stepped, Stepping, Inside, a-slot-not-visited-stays, a-slot-visited-is-changed}
 use Rattle.tree.proofs.WearLaws.{wearStep, bareStep, wear-all-is-a-round, bare-all-is-a-round}
 use Rattle.tree.proofs.RefreshLaws.{three, the-slots-of-a-refresh-are-below-the-limit}
 use Rattle.tree.proofs.DressLaws.{style-step, table-step}
 
--- ---- tests of two parts, and of all of a list's front
-
-pub left-holds : (a b : Bool) → (a && b) ≡ true → a ≡ true
-left-holds true b e = refl
-left-holds false b e = e
-
-pub right-holds : (a b : Bool) → (a && b) ≡ true → b ≡ true
-right-holds true b e = e
-right-holds false b e = let z : _≡_ {A = ℕ} 0 1 = cc in absurd (omega arith)
+-- ---- a test of all of a list's front
 
 pub each-of-a-front-passes : {A : Type 0} (p : A → Bool) (d : A) (n : ℕ) (l : List A) → all p (take n l) ≡ true → (j : ℕ) → j < n → j < length l → p (getD l j d) ≡ true
 each-of-a-front-passes p d zero l e j h b = absurd (omega arith)
 each-of-a-front-passes p d (suc n) [] e j h b = absurd (omega arith)
-each-of-a-front-passes p d (suc n) (x ∷ xs) e zero h b = left-holds (p x) (all p (take n xs)) e
-each-of-a-front-passes p d (suc n) (x ∷ xs) e (suc j) h b = each-of-a-front-passes p d n xs (right-holds (p x) (all p (take n xs)) e) j (omega arith) (omega arith)
+each-of-a-front-passes p d (suc n) (x ∷ xs) e zero h b = and-left (p x) (all p (take n xs)) e
+each-of-a-front-passes p d (suc n) (x ∷ xs) e (suc j) h b = each-of-a-front-passes p d n xs (and-right (p x) (all p (take n xs)) e) j (omega arith) (omega arith)
 
 pub a-front-passes-if-each-does : {A : Type 0} (p : A → Bool) (d : A) (n : ℕ) (l : List A) → n ≤ length l → ((j : ℕ) → j < n → p (getD l j d) ≡ true) → all p (take n l) ≡ true
 a-front-passes-if-each-does p d zero l h q = refl
@@ -71,8 +62,8 @@ no-patch-is-in-every-pool count = rw (same-refl noPatch)
 
 entry-in-pool : (count : ℕ) (table : List ℕ) (i : ℕ) → all (inPool count) table ≡ true → inPool count (getD table i noPatch) ≡ true
 entry-in-pool count [] i e = no-patch-is-in-every-pool count
-entry-in-pool count (k ∷ ks) zero e = left-holds (inPool count k) (all (inPool count) ks) e
-entry-in-pool count (k ∷ ks) (suc i) e = entry-in-pool count ks i (right-holds (inPool count k) (all (inPool count) ks) e)
+entry-in-pool count (k ∷ ks) zero e = and-left (inPool count k) (all (inPool count) ks) e
+entry-in-pool count (k ∷ ks) (suc i) e = entry-in-pool count ks i (and-right (inPool count k) (all (inPool count) ks) e)
 
 three-bits-make-7-at-most : (a b c : Bool) → bitsOf a b c ≤ 7
 unfolding bitsOf
@@ -92,7 +83,7 @@ bits-are-7-at-most u hover i = three-bits-make-7-at-most _ _ _
 pub a-slot-that-wears-is-well : (count : ℕ) (s : StateSlot) (b : ℕ) → b ≤ 7 → stateWell count s ≡ true → stateWell count (wearing s (entryOf (s .table) b) b) ≡ true
 unfolding stateWell entryOf
 a-slot-that-wears-is-well count s b h e =
-    let t : all (inPool count) (s .table) ≡ true = left-holds (all (inPool count) (s .table)) (leb (s .bits) 7) (right-holds (inPool count (s .applied)) (all (inPool count) (s .table) && leb (s .bits) 7) e) in
+    let t : all (inPool count) (s .table) ≡ true = and-left (all (inPool count) (s .table)) (leb (s .bits) 7) (and-right (inPool count (s .applied)) (all (inPool count) (s .table) && leb (s .bits) 7) e) in
     both-true (inPool count (getD (s .table) (b % 16) noPatch)) (all (inPool count) (s .table) && leb b 7) (entry-in-pool count (s .table) (b % 16) t)
     (both-true (all (inPool count) (s .table)) (leb b 7) t (le-leb b 7 h))
 
@@ -109,9 +100,9 @@ a-bare-slot-is-well count base =
 pub a-tabled-slot-is-well : (count : ℕ) (s : StateSlot) (table : List ℕ) → all (inPool count) table ≡ true → stateWell count s ≡ true → stateWell count (tabled s table) ≡ true
 unfolding stateWell
 a-tabled-slot-is-well count s table t e =
-    both-true (inPool count (s .applied)) (all (inPool count) table && leb (s .bits) 7) (left-holds (inPool count (s .applied)) (all (inPool count) (s .table) && leb (s .bits) 7) e)
+    both-true (inPool count (s .applied)) (all (inPool count) table && leb (s .bits) 7) (and-left (inPool count (s .applied)) (all (inPool count) (s .table) && leb (s .bits) 7) e)
     (both-true (all (inPool count) table) (leb (s .bits) 7) t
-    (right-holds (all (inPool count) (s .table)) (leb (s .bits) 7) (right-holds (inPool count (s .applied)) (all (inPool count) (s .table) && leb (s .bits) 7) e)))
+    (and-right (all (inPool count) (s .table)) (leb (s .bits) 7) (and-right (inPool count (s .applied)) (all (inPool count) (s .table) && leb (s .bits) 7) e)))
 
 pub a-based-slot-is-well : (count : ℕ) (s : StateSlot) (base : Style) → stateWell count s ≡ true → stateWell count (based s base) ≡ true
 unfolding stateWell
@@ -120,7 +111,7 @@ a-based-slot-is-well count s base e = e
 bits-of-a-well-slot : (count : ℕ) (s : StateSlot) → stateWell count s ≡ true → s .bits ≤ 7
 unfolding stateWell
 bits-of-a-well-slot count s e =
-    leb-true (s .bits) 7 (right-holds (all (inPool count) (s .table)) (leb (s .bits) 7) (right-holds (inPool count (s .applied)) (all (inPool count) (s .table) && leb (s .bits) 7) e))
+    leb-true (s .bits) 7 (and-right (all (inPool count) (s .table)) (leb (s .bits) 7) (and-right (inPool count (s .applied)) (all (inPool count) (s .table) && leb (s .bits) 7) e))
 
 -- ---- all slots
 
@@ -147,6 +138,10 @@ bare-slots-are-well count n k m o j h =
     subst (λ (k′ : Looks). stateWell count (stateAt (k′ .states) j) ≡ true) (sym (bare-all-is-a-round k is))
     (ap (λ (e : Look). stateWell count (e .state)) (a-slot-visited-is-changed bareStep k is (λ i z. let b = occurs-below n i z in omega arith) o j (omega arith))
     ∙ a-bare-slot-is-well count (stateAt (k .states) j .base))
+
+pub a-tree-with-a-new-pool-is-well : (u : Ui) (patches : List StatePatch) (count : ℕ) → limitOf u ≤ 128 → Sized (looksOf u) → StatesWell count (limitOf u) (pooled u patches count .states)
+unfolding pooled withPool withLooks
+a-tree-with-a-new-pool-is-well u patches count m o = bare-slots-are-well count (limitOf u) (looksOf u) m o
 
 one-slot-well : (count n : ℕ) (change : Look → Look) (moves : Look → Bool) (k k′ : Looks) (i : ℕ) → Stepped change moves k i k′ → ((e : Look) → stateWell count (e .state) ≡ true → stateWell count (change e .state) ≡ true)
     → StatesWell count n (k .states) → StatesWell count n (k′ .states)
