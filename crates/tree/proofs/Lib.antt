@@ -22,3 +22,5 @@ pub mod RefreshLaws
 pub mod DressLaws
 pub mod WellLaws
 pub mod Parts
+pub mod GivenIds
+pub mod InsertParts
