@@ -24,3 +24,5 @@ pub mod WellLaws
 pub mod Parts
 pub mod GivenIds
 pub mod InsertParts
+pub mod RemoveParts
+pub mod NotBroken
