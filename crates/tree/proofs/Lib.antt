@@ -25,3 +25,7 @@ pub mod FieldLaws
 pub mod Parts
 pub mod ShapeParts
 pub mod LookParts
+pub mod GivenIds
+pub mod InsertParts
+pub mod RemoveParts
+pub mod NotBroken

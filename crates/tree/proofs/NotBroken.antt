@@ -1,0 +1,44 @@
+-- A tree of which the parts hold keeps the link rules, one by one, so that no call refuses it as broken. Assumes nothing.
+use mathlib.Core.Path.{_≡_, refl, ap}
+use mathlib.Core.Bool.{Bool, true, false, not, _&&_}
+use mathlib.Core.List.{List, [], _∷_}
+use Prim.Native.Nat.{ℕ, _≤_}
+use native.Mathlib.Omega.{arith}
+use borrow.Author.Tests.{le-leb}
+use lib.Dec.{leb}
+use lib.ListN.{length}
+use Rattle.field.specs.Fields.{fieldOk}
+use Rattle.field.specs.declared.Field.{Field}
+use Rattle.tree.specs.Tests.{all}
+use Rattle.tree.specs.Forest.{Forest}
+use Rattle.tree.specs.Nodes.{Info}
+use Rattle.tree.specs.Slots.{Slots}
+use Rattle.tree.specs.Rules.{broken}
+use Rattle.tree.specs.Trees.{limitOf}
+use Rattle.tree.specs.declared.Ui.{Ui}
+use Rattle.tree.proofs.RuleLaws.{both-true, links-well}
+use Rattle.tree.proofs.WellLaws.{states-well-together}
+use Rattle.tree.proofs.Ids.{limit-is-positive}
+use Rattle.tree.proofs.Parts.{Ruled, AllFields, Links, Dress, Pool, Texts, Queue}
+
+pub ruled-fields-keep-the-rules : (s : Slots) (t : Forest Info) (fs : List Field) → AllFields (Ruled s t) fs → all fieldOk fs ≡ true
+ruled-fields-keep-the-rules s t [] q = refl
+ruled-fields-keep-the-rules s t (f ∷ fs) q = both-true (fieldOk f) (all fieldOk fs) (q .0 .0) (ruled-fields-keep-the-rules s t fs (q .1))
+
+pub not-broken : {k : ℕ} {u : Ui} {t : Forest Info} → Links k u t → Dress u t → Pool u → Texts (u .slots) (u .fields) t → Queue u → broken u ≡ false
+unfolding broken
+not-broken {k} {u} {t} L D P X Q =
+    let sm = L .rel .small in
+    let ls = D .sized .1 in
+    rw (
+      le-leb 1 (limitOf u) (limit-is-positive (L .rel)),
+      le-leb (limitOf u) 128 sm,
+      le-leb (u .«patch_count») 64 (P .few),
+      links-well u t (L .chain) (L .rel) (L .count),
+      states-well-together (u .«patch_count») (limitOf u) (u .states) (omega arith) (D .well),
+      le-leb (u .«stated_count») 3 (D .stated-few),
+      D .stated-once,
+      le-leb (u .«output_count») (limitOf u) (Q .few),
+      X .owners,
+      ruled-fields-keep-the-rules (u .slots) t (u .fields) (X .ruled),
+    )
