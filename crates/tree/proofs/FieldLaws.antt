@@ -22,6 +22,7 @@ use Rattle.tree.specs.Fields.{firstField, owns, fieldOf, ownerDead, recl
 use Rattle.tree.specs.Rules.{ownersWell}
 use Rattle.tree.specs.Forest.{Forest, nil, node, hasBoth, hasId}
 use Rattle.tree.specs.Nodes.{Info, bit, hasField, withField, changeOf}
+use Rattle.tree.proofs.Parts.{AllFields, textIn}
 use Rattle.tree.proofs.TestLaws.{same-yes, same-no, same-refl, δ-same, eq-cases, zero-cases, bool-cases}
 use Rattle.tree.proofs.ForestLaws.{cnt, wt}
 use Rattle.tree.proofs.Relations.{Rel, once}
@@ -50,19 +51,15 @@ to-have-an-id-is-to-be-named-by-it d i g = rw (same-sym i (d .index), same-sym g
 
 -- ---- what holds of each field, and an edit of one
 
-abbrev pub EachField : (Field → Type 0) → List Field → Type 0
-EachField P [] = Unit {0}
-EachField P (f ∷ fs) = P f × EachField P fs
-
-pub a-test-of-all-is-of-each : (p : Field → Bool) (fs : List Field) → all p fs ≡ true → EachField (λ f. p f ≡ true) fs
+pub a-test-of-all-is-of-each : (p : Field → Bool) (fs : List Field) → all p fs ≡ true → AllFields (λ f. p f ≡ true) fs
 a-test-of-all-is-of-each p [] e = tt
 a-test-of-all-is-of-each p (f ∷ fs) e = (and-left (p f) (all p fs) e, a-test-of-all-is-of-each p fs (and-right (p f) (all p fs) e))
 
-pub a-test-of-each-is-of-all : (p : Field → Bool) (fs : List Field) → EachField (λ f. p f ≡ true) fs → all p fs ≡ true
+pub a-test-of-each-is-of-all : (p : Field → Bool) (fs : List Field) → AllFields (λ f. p f ≡ true) fs → all p fs ≡ true
 a-test-of-each-is-of-all p [] e = refl
 a-test-of-each-is-of-all p (f ∷ fs) e = both-true (p f) (all p fs) (e .0) (a-test-of-each-is-of-all p fs (e .1))
 
-pub an-edit-keeps-of-each : (P : Field → Type 0) (p : Field → Bool) (c : Field → Field) → ((f : Field) → P f → P (c f)) → (fs : List Field) → EachField P fs → EachField P (changeFirst p c fs)
+pub an-edit-keeps-of-each : (P : Field → Type 0) (p : Field → Bool) (c : Field → Field) → ((f : Field) → P f → P (c f)) → (fs : List Field) → AllFields P fs → AllFields P (changeFirst p c fs)
 an-edit-keeps-of-each P p c e [] h = tt
 an-edit-keeps-of-each P p c e (f ∷ fs) h = bool-cases (p f) (λ q. rw q (e f (h .0), h .1)) (λ q. rw q (h .0, an-edit-keeps-of-each P p c e fs (h .1)))
 
@@ -101,7 +98,7 @@ who-owns-one-has-a-field d (f ∷ fs) z =
     (λ q. let z′ : 1 + owned d fs ≤ 1 = rw q at z in rw q (omega arith))
     (λ q. let z′ : 0 + owned d fs ≤ 1 = rw q at z in let h = who-owns-one-has-a-field d fs (omega arith) in rw q (h ∙ omega arith))
 
-pub an-id-that-owns-no-field : (d : NodeId) (fs : List Field) → EachField (λ f. owns d f ≡ false) fs → owned d fs ≡ 0
+pub an-id-that-owns-no-field : (d : NodeId) (fs : List Field) → AllFields (λ f. owns d f ≡ false) fs → owned d fs ≡ 0
 an-id-that-owns-no-field d [] h = refl
 an-id-that-owns-no-field d (f ∷ fs) h = let I = an-id-that-owns-no-field d fs (h .1) in rw (h .0) (omega arith)
 
@@ -184,7 +181,7 @@ unfolding reclaimed
 clearing-keeps-the-number-of-fields n s [] = refl
 clearing-keeps-the-number-of-fields n s (f ∷ fs) = ap suc (clearing-keeps-the-number-of-fields n s fs)
 
-pub clearing-keeps-of-each : (P : Field → Type 0) → P emptyField → (n : ℕ) (s : Slots) (fs : List Field) → EachField P fs → EachField P (reclaimed n s fs)
+pub clearing-keeps-of-each : (P : Field → Type 0) → P emptyField → (n : ℕ) (s : Slots) (fs : List Field) → AllFields P fs → AllFields P (reclaimed n s fs)
 unfolding reclaimed
 clearing-keeps-of-each P e n s [] h = tt
 clearing-keeps-of-each P e n s (f ∷ fs) h =
@@ -226,7 +223,7 @@ pub a-claim-keeps-the-number-of-fields : (d : NodeId) (fs : List Field) → leng
 unfolding claimed
 a-claim-keeps-the-number-of-fields d fs = an-edit-keeps-the-number-of-fields vacant (λ (f : Field). ownField d) fs
 
-pub a-claim-keeps-of-each : (P : Field → Type 0) (d : NodeId) → P (ownField d) → (fs : List Field) → EachField P fs → EachField P (claimed d fs)
+pub a-claim-keeps-of-each : (P : Field → Type 0) (d : NodeId) → P (ownField d) → (fs : List Field) → AllFields P fs → AllFields P (claimed d fs)
 unfolding claimed
 a-claim-keeps-of-each P d e fs h = an-edit-keeps-of-each P vacant (λ (f : Field). ownField d) (λ f _. e) fs h
 
@@ -401,10 +398,6 @@ module _ {X : Type 0} where
         omega arith
 
 -- ---- a node's text is its field's
-
-abbrev pub textIn : Maybe Field → Maybe Text
-textIn nothing = nothing
-textIn (just f) = just (textOf f)
 
 -- the fields hold the node's text
 abbrev pub Texted : List Field → ℕ → ℕ → Info → Type 0

@@ -21,11 +21,12 @@ pub mod HitLaws
 pub mod RefreshLaws
 pub mod DressLaws
 pub mod WellLaws
-pub mod FieldLaws
 pub mod Parts
+pub mod FieldLaws
 pub mod ShapeParts
 pub mod LookParts
 pub mod GivenIds
 pub mod InsertParts
 pub mod RemoveParts
 pub mod NotBroken
+pub mod FieldParts

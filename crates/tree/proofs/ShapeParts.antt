@@ -19,6 +19,9 @@ use Rattle.tree.proofs.ForestLaws.{cnt}
 use Rattle.tree.proofs.Payloads.{AllF, shape, shape-size, cnt-shape, rel-shape}
 use Rattle.tree.proofs.Parts.{Below, BelowMaybe, Links, Naming, Ruled, AllFields, textIn, Texts}
 
+pub links-after : (k : ℕ) (u : Ui) (t : Forest Info) → Links k u t → Links (suc k) u t
+links-after k u t h = record { chain = h .chain; rel = h .rel; count = h .count; young = λ j. let q = h .young j in omega arith }
+
 module _ (t t′ : Forest Info) (e : shape t ≡ shape t′) where
   pub below-by-shape : (s : Slots) (d : NodeId) → Below s t d → Below s t′ d
   below-by-shape s d h = let q = cnt-shape (d .index) t t′ e in omega arith
@@ -30,13 +33,17 @@ module _ (t t′ : Forest Info) (e : shape t ≡ shape t′) where
   pub size-by-shape : size t ≡ size t′
   size-by-shape = sym (shape-size t) ∙ ap size e ∙ shape-size t′
 
-  pub links-by-shape : (k : ℕ) (u u′ : Ui) → u′ .slots ≡ u .slots → u′ .free ≡ u .free → u′ .live ≡ u .live → limitOf u′ ≡ limitOf u → Links k u t → Links (suc k) u′ t′
-  links-by-shape k u u′ es ef el en h = record {
+  -- after as many calls as before, or one more
+  pub links-of-shape : (k : ℕ) (u u′ : Ui) → u′ .slots ≡ u .slots → u′ .free ≡ u .free → u′ .live ≡ u .live → limitOf u′ ≡ limitOf u → Links k u t → Links k u′ t′
+  links-of-shape k u u′ es ef el en h = record {
     chain = h .chain;
     rel = rw (en, es, ef) (rel-shape (limitOf u) (u .slots) (u .free) t t′ (h .chain) e (h .rel));
     count = el ∙ h .count ∙ size-by-shape;
-    young = λ j. let q = h .young j in rw es (omega arith);
+    young = λ j. rw es (h .young j);
   }
+
+  pub links-by-shape : (k : ℕ) (u u′ : Ui) → u′ .slots ≡ u .slots → u′ .free ≡ u .free → u′ .live ≡ u .live → limitOf u′ ≡ limitOf u → Links k u t → Links (suc k) u′ t′
+  links-by-shape k u u′ es ef el en h = links-after k u′ t′ (links-of-shape k u u′ es ef el en h)
 
   pub naming-by-shape : (s : Slots) (named : List NodeId) → Naming s t named
       → AllF (λ i g x. (x .name < length named) × (getD named (x .name) nobody ≡ record { index = i; generation = g })) t′ → Naming s t′ named
@@ -46,7 +53,7 @@ module _ (t t′ : Forest Info) (e : shape t ≡ shape t′) where
     apart = h .apart;
   }
 
-  ruled-by-shape : (s : Slots) (fs : List Field) → AllFields (Ruled s t) fs → AllFields (Ruled s t′) fs
+  pub ruled-by-shape : (s : Slots) (fs : List Field) → AllFields (Ruled s t) fs → AllFields (Ruled s t′) fs
   ruled-by-shape s [] h = tt
   ruled-by-shape s (f ∷ fs) h = ((h .0 .0, h .0 .1, below-maybe-by-shape s (f .owner) (h .0 .2)), ruled-by-shape s fs (h .1))
 
