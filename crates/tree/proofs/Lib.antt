@@ -26,3 +26,5 @@ pub mod GivenIds
 pub mod InsertParts
 pub mod RemoveParts
 pub mod NotBroken
+pub mod StartParts
+pub mod ReadParts
