@@ -2,7 +2,7 @@
 -- are those known of it, since its slot holds the box and its field holds the text. The links from child to child go through the children
 -- in order. Assumes nothing.
 use mathlib.Core.Path.{_≡_, refl, sym, ap, _∙_, subst}
-use mathlib.Core.Bool.{Bool, true, false, _&&_, _||_}
+use mathlib.Core.Bool.{Bool, true, false}
 use mathlib.Core.List.{List, [], _∷_, _++_}
 use Prim.Native.Nat.{ℕ, zero, suc, _+_, _-_, _≤_, _<_}
 use native.Mathlib.Omega.{arith}
@@ -10,7 +10,7 @@ use lib.ListN.{length, replicate}
 use Rattle.text.specs.Refusal.{Answer, accepted, refused}
 use Rattle.text.specs.declared.refusal.Refusal.the-variants.{Missing, Fieldless}
 use Rattle.field.specs.Text.{Text, bytesOf, caretOf}
-use Rattle.field.specs.Fields.{fieldOk, held, shownOf, textOf}
+use Rattle.field.specs.Fields.{fieldOk, shownOf, textOf}
 use Rattle.field.specs.Metres.{metresOf, fieldMetres}
 use Rattle.field.specs.declared.NodeId.{NodeId}
 use Rattle.field.specs.declared.MaybeId.{MaybeId}
@@ -18,16 +18,14 @@ use Rattle.field.specs.declared.MaybeId.the-variants.{Absent, Present}
 use Rattle.field.specs.declared.Field.{Field}
 use Rattle.field.proofs.Laws.{held-is-the-texts, length-is-the-texts, caret-is-the-texts}
 use Rattle.tree.specs.Tests.{pick, Maybe, nothing, just}
-use Rattle.tree.specs.Forest.{Forest, nil, node, app, hasBoth, hasId, kidsOf, find, ids, size}
+use Rattle.tree.specs.Forest.{Forest, nil, node, hasBoth, hasId, kidsOf, find, ids, size}
 use Rattle.tree.specs.Nodes.{Info}
-use Rattle.tree.specs.Slots.{NIL, Slots, at, idAt, isLive}
+use Rattle.tree.specs.Slots.{NIL, Slots, at}
 use Rattle.tree.specs.Styles.{noRect, layoutAt}
 use Rattle.tree.specs.Fields.{firstField, owns, fieldOf}
 use Rattle.tree.specs.Rules.{broken}
-use Rattle.tree.specs.Trees.{limitOf}
 use Rattle.tree.specs.Calls.{Outcome, Shown, noText, shown, gives, guarded, onLive, ofField, onField, fieldText, fieldCursor, rect, live, firstChild, nextSibling}
 use Rattle.tree.specs.declared.Ui.{Ui}
-use Rattle.tree.specs.declared.Rect.{Rect}
 use Rattle.tree.specs.declared.Slot.{Slot}
 use Rattle.tree.proofs.TestLaws.{δ-refl, bool-cases}
 use Rattle.tree.proofs.ForestLaws.{cnt, kids, cnt-kids-le, wt-rest, size-is-a-sum}
@@ -36,7 +34,7 @@ use Rattle.tree.proofs.Orders.{rel-size}
 use Rattle.tree.proofs.Ids.{live-just-where-a-node-has-it, live-id, kids-of-a-live-id, slots-id-is-live, find-nothing, find-known}
 use Rattle.tree.proofs.ChildLinks.{firstId, first-link, no-node-is-none, children-segment, first-child-of-a-live-id}
 use Rattle.tree.proofs.PassLaws.{Boxed}
-use Rattle.tree.proofs.Parts.{Ruled, AllFields, textIn, Links, Dress, Texts}
+use Rattle.tree.proofs.Parts.{Ruled, AllFields, textIn, Links, Texts}
 
 -- what is said of an id: of a live node what is known of it, and of its text
 abbrev pub ofText : {A : Type 0} → A → (Text → Answer A) → Maybe Text → Answer A

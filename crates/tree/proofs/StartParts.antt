@@ -1,24 +1,20 @@
 -- The new tree of n slots has every part: the root alone, named first, its slots, layout, states and fields as new. Assumes nothing.
-use mathlib.Core.Path.{_≡_, refl, sym, _∙_}
-use mathlib.Core.Bool.{true, false}
+use mathlib.Core.Path.{_≡_, refl, sym}
 use mathlib.Core.List.{List, [], _∷_}
 use Prim.Native.Nat.{ℕ, zero, suc, _+_, _-_, _≤_, _<_}
 use native.Mathlib.Omega.{arith}
-use lib.ListN.{length, getD, replicate, length-replicate, getD-replicate}
+use lib.ListN.{getD, replicate, length-replicate, getD-replicate}
 use Rattle.field.specs.Fields.{emptyField}
 use Rattle.field.specs.declared.NodeId.{NodeId}
-use Rattle.field.specs.declared.Field.{Field}
 use Rattle.field.proofs.Laws.{empty-field-keeps-the-rules}
-use Rattle.tree.specs.Tests.{occ, fromTo}
+use Rattle.tree.specs.Tests.{fromTo}
 use Rattle.tree.specs.Forest.{Forest, nil, node}
 use Rattle.tree.specs.Nodes.{Info, newInfo}
 use Rattle.tree.specs.Slots.{Slots, at}
-use Rattle.tree.specs.Styles.{freshLayout, freshState, freshStyle, noLayout, noState, layoutAt, stateAt}
+use Rattle.tree.specs.Styles.{freshLayout, freshState, freshStyle, noState, layoutAt, stateAt}
 use Rattle.tree.specs.Fields.{fieldOf}
 use Rattle.tree.specs.Rules.{distinct, ownersWell}
 use Rattle.tree.specs.Calls.{nobody, fresh}
-use Rattle.tree.specs.declared.LayoutSlot.{LayoutSlot}
-use Rattle.tree.specs.declared.StateSlot.{StateSlot}
 use Rattle.tree.proofs.TestLaws.{δ-refl}
 use Rattle.tree.proofs.ForestLaws.{cnt}
 use Rattle.tree.proofs.Starts.{start-rel, start-generations, start-root-generation}
