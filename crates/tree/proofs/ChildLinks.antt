@@ -47,7 +47,7 @@ module _ {X : Type 0} where
   ids-tops a (node i g x cs sib) par pv nx r =
       let e : at a i .generation ≡ g = ap (λ (s : Slot). s .generation) (r .0) in rw (e, ids-tops a sib par i nx (r .2))
 
-  first-link : (a : Slots) (f : Forest X) (par pv nx : ℕ) → SegR a par pv f nx → cnt NIL f ≡ 0 → linkId a (firstOr NIL f) ≡ firstId f
+  pub first-link : (a : Slots) (f : Forest X) (par pv nx : ℕ) → SegR a par pv f nx → cnt NIL f ≡ 0 → linkId a (firstOr NIL f) ≡ firstId f
   first-link a nil par pv nx r z = rw (same-refl NIL)
   first-link a (node i g x cs sib) par pv nx r z =
       let d = δ-refl i in

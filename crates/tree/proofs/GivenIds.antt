@@ -1,7 +1,7 @@
 -- An id that was given has a generation below its slot's epoch. So it stays given while no epoch falls, and it is not the id of a free
 -- slot, whose generation is the epoch: a free slot's id has no field. Assumes nothing.
 use mathlib.Core.Path.{_≡_, refl}
-use mathlib.Core.Bool.{Bool, true, false, _&&_}
+use mathlib.Core.Bool.{false}
 use mathlib.Core.List.{List, [], _∷_}
 use Prim.Native.Nat.{ℕ, _+_, _≤_, _<_}
 use native.Mathlib.Omega.{arith}
@@ -9,7 +9,7 @@ use Rattle.field.specs.declared.NodeId.{NodeId}
 use Rattle.field.specs.declared.MaybeId.{MaybeId}
 use Rattle.field.specs.declared.MaybeId.the-variants.{Absent, Present}
 use Rattle.field.specs.declared.Field.{Field}
-use Rattle.tree.specs.Tests.{pick, same, nothing}
+use Rattle.tree.specs.Tests.{nothing}
 use Rattle.tree.specs.Forest.{Forest}
 use Rattle.tree.specs.Nodes.{Info}
 use Rattle.tree.specs.Slots.{Slots, at, idAt}

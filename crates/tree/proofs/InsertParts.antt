@@ -1,10 +1,10 @@
 -- An insertion keeps every part: one node more, in the first free slot, with the slot's layout and state as new. Its id is that of the
 -- free slot, whose generation is the slot's epoch, so it was never given and no field is its own. Assumes nothing.
-use mathlib.Core.Path.{_≡_, refl, sym, ap, _∙_, subst}
+use mathlib.Core.Path.{_≡_, refl, sym, ap, _∙_}
 use mathlib.Core.Logic.{_≢_}
-use mathlib.Core.Bool.{Bool, true, false}
+use mathlib.Core.Bool.{true}
 use mathlib.Core.List.{List, [], _∷_, _++_}
-use Prim.Native.Nat.{ℕ, suc, _+_, _≤_, _<_}
+use Prim.Native.Nat.{ℕ, suc, _+_, _<_}
 use native.Mathlib.Omega.{arith}
 use native.Mathlib.Decide.{decLt}
 use lib.ListN.{length, getD, set, length-set, length-append, List·getD-append}
@@ -14,11 +14,9 @@ use Rattle.field.specs.declared.MaybeId.{MaybeId}
 use Rattle.tree.specs.Tests.{δ, occ}
 use Rattle.tree.specs.Forest.{Forest, nil, node, app, hasId, kidsOf, setKidsOf, size}
 use Rattle.tree.specs.Nodes.{Info, newInfo}
-use Rattle.tree.specs.Slots.{NIL, Slots, at, put, used, idAt, linkLast}
-use Rattle.tree.specs.Styles.{freshLayout, freshState, freshStyle, layoutAt, stateAt}
-use Rattle.tree.specs.States.{looksOf}
+use Rattle.tree.specs.Slots.{NIL, Slots, at, idAt}
+use Rattle.tree.specs.Styles.{freshLayout, freshState, freshStyle, layoutAt}
 use Rattle.tree.specs.Fields.{fieldOf}
-use Rattle.tree.specs.Rules.{stateWell}
 use Rattle.tree.specs.Trees.{limitOf, statedOf, withNodes}
 use Rattle.tree.specs.Calls.{nobody, insertAt}
 use Rattle.tree.specs.declared.Ui.{Ui}
@@ -29,8 +27,8 @@ use Rattle.tree.proofs.ForestLaws.{cnt, kids, setKids}
 use Rattle.tree.proofs.Relations.{Rel, once, below}
 use Rattle.tree.proofs.Payloads.{AllF, all-map, all-app, all-kids, all-set}
 use Rattle.tree.proofs.LinkInserts.{insert-rel, insert-size, insert-keeps-generations}
-use Rattle.tree.proofs.Generations.{insert-epochs, insert-epochs-never-fall}
-use Rattle.tree.proofs.Ids.{live-id, kids-of-a-live-id, set-kids-of-a-live-id, free-cases}
+use Rattle.tree.proofs.Generations.{insert-epochs}
+use Rattle.tree.proofs.Ids.{live-id, kids-of-a-live-id, set-kids-of-a-live-id, free-cases, full-when-none-is-free}
 use Rattle.tree.proofs.Rounds.{Worn}
 use Rattle.tree.proofs.WearLaws.{a-a-state-is-stored-is-there, other-states-stay, a-stored-layout-is-there, other-layouts-stay, a-fresh-table-has-no-patch}
 use Rattle.tree.proofs.WellLaws.{a-bare-slot-is-well}
@@ -40,6 +38,10 @@ use Rattle.tree.proofs.GivenIds.{NoEpochFalls, given-ids-stay-given, gi
 -- the forest with a new last child of the node that has the id, in the first free slot and of name m
 abbrev pub withChild : Ui → NodeId → ℕ → Forest Info → Forest Info
 withChild u d m t = setKidsOf d (app (kidsOf d t) (node (u .free) (at (u .slots) (u .free) .generation) (newInfo m) nil nil)) t
+
+-- below the limit a slot is free
+pub a-slot-is-free-below-the-limit : {k : ℕ} {u : Ui} {t : Forest Info} → Links k u t → size t < limitOf u → u .free ≢ NIL
+a-slot-is-free-below-the-limit {u = u} {t = t} L h e = let q = full-when-none-is-free (limitOf u) (u .slots) (u .free) t (L .chain) (L .rel) e in omega arith
 
 -- the free chain begins with the slot taken
 record Taken (u : Ui) (t : Forest Info) : Type 0 where

@@ -30,3 +30,5 @@ pub mod InsertParts
 pub mod RemoveParts
 pub mod NotBroken
 pub mod FieldParts
+pub mod StartParts
+pub mod ReadParts

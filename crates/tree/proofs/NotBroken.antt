@@ -1,12 +1,10 @@
 -- A tree of which the parts hold keeps the link rules, one by one, so that no call refuses it as broken. Assumes nothing.
-use mathlib.Core.Path.{_≡_, refl, ap}
-use mathlib.Core.Bool.{Bool, true, false, not, _&&_}
+use mathlib.Core.Path.{_≡_, refl}
+use mathlib.Core.Bool.{true, false}
 use mathlib.Core.List.{List, [], _∷_}
-use Prim.Native.Nat.{ℕ, _≤_}
+use Prim.Native.Nat.{ℕ}
 use native.Mathlib.Omega.{arith}
 use borrow.Author.Tests.{le-leb}
-use lib.Dec.{leb}
-use lib.ListN.{length}
 use Rattle.field.specs.Fields.{fieldOk}
 use Rattle.field.specs.declared.Field.{Field}
 use Rattle.tree.specs.Tests.{all}

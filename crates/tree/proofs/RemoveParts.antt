@@ -1,28 +1,26 @@
 -- A removal keeps every part: the node and all below it leave the forest, the slots freed are those of the part that leaves, each is one
 -- generation older and its state is as new. So every epoch is what it was, and what holds of the nodes that stay held before. Assumes nothing.
-use mathlib.Core.Path.{_≡_, refl, sym, ap, _∙_, subst}
+use mathlib.Core.Path.{_≡_, refl, sym, _∙_}
 use mathlib.Core.Logic.{_≢_}
-use mathlib.Core.Bool.{Bool, true, false}
+use mathlib.Core.Bool.{true}
 use mathlib.Core.List.{List, [], _∷_}
-use Prim.Native.Nat.{ℕ, suc, _+_, _-_, _≤_, _<_, _^_}
+use Prim.Native.Nat.{ℕ, suc, _+_, _<_, _^_}
 use native.Mathlib.Omega.{arith}
 use lib.ListN.{length, getD, set, length-set}
 use Rattle.field.specs.declared.NodeId.{NodeId}
 use Rattle.field.specs.declared.MaybeId.{MaybeId}
 use Rattle.tree.specs.Tests.{occ}
-use Rattle.tree.specs.Forest.{Forest, hasId, cutOf, size}
+use Rattle.tree.specs.Forest.{Forest, hasId, cutOf}
 use Rattle.tree.specs.Nodes.{Info}
-use Rattle.tree.specs.Slots.{Slots, at, unlink, freeOrder}
-use Rattle.tree.specs.Styles.{freshState, freshStyle, layoutAt, stateAt}
-use Rattle.tree.specs.Fields.{fieldOf}
-use Rattle.tree.specs.Rules.{stateWell}
-use Rattle.tree.specs.Trees.{limitOf, statedOf, withNodes}
+use Rattle.tree.specs.Slots.{at, unlink, freeOrder}
+use Rattle.tree.specs.Styles.{freshState, freshStyle, stateAt}
+use Rattle.tree.specs.Trees.{limitOf, withNodes}
 use Rattle.tree.specs.Calls.{nobody, resetStates, removeAt}
 use Rattle.tree.specs.declared.Ui.{Ui}
 use Rattle.tree.specs.declared.StateSlot.{StateSlot}
 use Rattle.tree.proofs.TestLaws.{δ-same, eq-cases, zero-cases}
 use Rattle.tree.proofs.ForestLaws.{cnt, cut}
-use Rattle.tree.proofs.Relations.{Rel, once}
+use Rattle.tree.proofs.Relations.{once}
 use Rattle.tree.proofs.Payloads.{AllF, all-map, all-cut}
 use Rattle.tree.proofs.FreeOrders.{pushed}
 use Rattle.tree.proofs.LinkRemovals.{Removed, remove-rel}
@@ -31,7 +29,7 @@ use Rattle.tree.proofs.Ids.{live-id, cut-of-a-live-id}
 use Rattle.tree.proofs.Rounds.{Worn}
 use Rattle.tree.proofs.WearLaws.{a-a-state-is-stored-is-there, other-states-stay}
 use Rattle.tree.proofs.WellLaws.{a-bare-slot-is-well}
-use Rattle.tree.proofs.Parts.{Below, BelowMaybe, Links, Naming, Dress, Pool, Texts, Queue, textIn}
+use Rattle.tree.proofs.Parts.{Below, BelowMaybe, Links, Naming, Dress, Pool, Texts, Queue}
 use Rattle.tree.proofs.GivenIds.{NoEpochFalls, given-ids-stay-given, given-owners-stay-given, ruled-fields-stay-ruled}
 
 -- ---- states as new
