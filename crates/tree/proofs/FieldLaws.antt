@@ -54,6 +54,10 @@ abbrev pub EachField : (Field → Type 0) → List Field → Type 0
 EachField P [] = Unit {0}
 EachField P (f ∷ fs) = P f × EachField P fs
 
+pub what-each-field-has-gives : (P Q : Field → Type 0) → ((f : Field) → P f → Q f) → (fs : List Field) → EachField P fs → EachField Q fs
+what-each-field-has-gives P Q h [] r = tt
+what-each-field-has-gives P Q h (f ∷ fs) r = (h f (r .0), what-each-field-has-gives P Q h fs (r .1))
+
 pub a-test-of-all-is-of-each : (p : Field → Bool) (fs : List Field) → all p fs ≡ true → EachField (λ f. p f ≡ true) fs
 a-test-of-all-is-of-each p [] e = tt
 a-test-of-all-is-of-each p (f ∷ fs) e = (and-left (p f) (all p fs) e, a-test-of-all-is-of-each p fs (and-right (p f) (all p fs) e))
