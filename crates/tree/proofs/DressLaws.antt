@@ -103,6 +103,10 @@ restyled-look : (y : Style) (x : Info) → styleLook y (lookOf x) ≡ lookOf (re
 unfolding restyled
 restyled-look y x = refl
 
+pub a-styled-slot-makes-a-pass-due : (u : Ui) (i : ℕ) (y : Style) → styledAt u i y .dirty ≡ true
+unfolding styledAt withLooks
+a-styled-slot-makes-a-pass-due u i y = refl
+
 -- ---- a table
 
 abbrev pub tableLook : List ℕ → Look → Look
@@ -131,11 +135,11 @@ module _ {n : ℕ} {free : ℕ} {t : Forest Info} {fl : List ℕ} (u : Ui) (r : 
   in-array : d .index < 128
   in-array = let c = live-id r d live .0 in let b = below r (d .index) (omega arith) in let m = r .small in omega arith
 
-  pub a-styled-slot-is-a-restyled-node : (y : Style)
-      → Redressed (looksOf u) (looksOf (styledAt u (d .index) y)) t (changeOf d (restyled y) t) (anyF (λ i g x. hasBoth d i g && true) t)
+  pub a-styled-slot-is-a-restyled-node : (y : Style) → Redressed (looksOf u) (looksOf (styledAt u (d .index) y)) t (changeOf d (restyled y) t) true
   a-styled-slot-is-a-restyled-node y =
-      one-slot-changed-is-one-node-changed r d live (styleLook y) (λ e. true) (looksOf u) (looksOf (styledAt u (d .index) y)) (style-step u (d .index) y o in-array) w
-      (restyled y) (restyled-look y) (λ x. true) (λ x. refl)
+      let R = one-slot-changed-is-one-node-changed r d live (styleLook y) (λ e. true) (looksOf u) (looksOf (styledAt u (d .index) y)) (style-step u (d .index) y o in-array) w
+      (restyled y) (restyled-look y) (λ x. true) (λ x. refl) in
+      record { sized = R .sized; worn = R .worn; due = a-styled-slot-makes-a-pass-due u (d .index) y ∙ sym (or-true (u .dirty)); rects = R .rects; dead = R .dead }
 
   tabled-look : (table : List ℕ) (x : Info) → wearLook (poolOf u) (x .bits) (tableLook table (lookOf x)) ≡ lookOf (wears (poolOf u) (x .bits) (withTable table x))
   unfolding wears
@@ -153,10 +157,6 @@ module _ {n : ℕ} {free : ℕ} {t : Forest Info} {fl : List ℕ} (u : Ui) (r : 
       (λ e. wearLook (poolOf u) (e .state .bits) (tableLook table e)) (λ e. wearMoves (poolOf u) (e .state .bits) (tableLook table e))
       (looksOf u) (looksOf (tabledAt u (d .index) table)) (table-step u (d .index) table o in-array) w
       (λ x. wears (poolOf u) (x .bits) (withTable table x)) (tabled-look table) (λ x. swaps (poolOf u) (x .bits) (withTable table x)) (tabled-moves table)
-
-pub a-styled-slot-makes-a-pass-due : (u : Ui) (i : ℕ) (y : Style) → styledAt u i y .dirty ≡ true
-unfolding styledAt withLooks
-a-styled-slot-makes-a-pass-due u i y = refl
 
 -- ---- nodes still wear what their tables have
 

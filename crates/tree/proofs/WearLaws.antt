@@ -29,9 +29,9 @@ use Rattle.tree.proofs.Rounds.{Look, lookAt, lookOf, Worn, Sized, a-lay
 
 -- ---- stores
 
-pub a-a-state-is-stored-is-there : (l : List StateSlot) (i : ℕ) (s : StateSlot) → i < length l → stateAt (set l i s) i ≡ s
+pub a-stored-state-is-there : (l : List StateSlot) (i : ℕ) (s : StateSlot) → i < length l → stateAt (set l i s) i ≡ s
 unfolding stateAt
-a-a-state-is-stored-is-there l i s h = getD-set-same l i s noState h
+a-stored-state-is-there l i s h = getD-set-same l i s noState h
 
 pub other-states-stay : (l : List StateSlot) (i j : ℕ) (s : StateSlot) → j ≢ i → stateAt (set l i s) j ≡ stateAt l j
 unfolding stateAt
@@ -53,7 +53,7 @@ a-state-and-a-style-are-stored change moves k i y s dirty′ o b es ey ed =
     let o0 = o .0 in let o1 = o .1 in
     let nl : LayoutSlot = withStyle (layoutAt (k .layout) i) y in
     let el : layoutAt (set (k .layout) i nl) i .style ≡ y = ap (λ (z : LayoutSlot). z .style) (a-stored-layout-is-there (k .layout) i nl (omega arith)) in
-    let es′ : stateAt (set (k .states) i s) i ≡ s = a-a-state-is-stored-is-there (k .states) i s (omega arith) in
+    let es′ : stateAt (set (k .states) i s) i ≡ s = a-stored-state-is-there (k .states) i s (omega arith) in
     record {
       sized = (length-set (k .layout) i nl ∙ o0, length-set (k .states) i s ∙ o1);
       here = λ r. record { state = (es′ ∙ es) r; style = (el ∙ ey) r };
@@ -70,7 +70,7 @@ pub a-state-is-stored : (change : Look → Look) (moves : Look → Bool) (k : Lo
     → Stepped change moves k i (record { layout = k .layout; states = set (k .states) i s; dirty = dirty′ })
 a-state-is-stored change moves k i s dirty′ o b es ey ed =
     let o1 = o .1 in
-    let es′ : stateAt (set (k .states) i s) i ≡ s = a-a-state-is-stored-is-there (k .states) i s (omega arith) in
+    let es′ : stateAt (set (k .states) i s) i ≡ s = a-stored-state-is-there (k .states) i s (omega arith) in
     record {
       sized = (o .0, length-set (k .states) i s ∙ o1);
       here = λ r. record { state = (es′ ∙ es) r; style = ey r };
