@@ -30,7 +30,7 @@ use Rattle.tree.proofs.LinkInserts.{insert-rel, insert-size, insert-kee
 use Rattle.tree.proofs.Generations.{insert-epochs}
 use Rattle.tree.proofs.Ids.{live-id, kids-of-a-live-id, set-kids-of-a-live-id, free-cases, full-when-none-is-free}
 use Rattle.tree.proofs.Rounds.{Worn}
-use Rattle.tree.proofs.WearLaws.{a-a-state-is-stored-is-there, other-states-stay, a-stored-layout-is-there, other-layouts-stay, a-fresh-table-has-no-patch}
+use Rattle.tree.proofs.WearLaws.{a-stored-state-is-there, other-states-stay, a-stored-layout-is-there, other-layouts-stay, a-fresh-table-has-no-patch}
 use Rattle.tree.proofs.WellLaws.{a-bare-slot-is-well}
 use Rattle.tree.proofs.Parts.{Below, BelowMaybe, Links, Naming, Dress, Pool, Texts, Queue, textIn}
 use Rattle.tree.proofs.GivenIds.{NoEpochFalls, given-ids-stay-given, given-owners-stay-given, ruled-fields-stay-ruled, a-given-id-is-not-a-free-slots, a-free-slots-id-has-no-field}
@@ -110,7 +110,7 @@ module _ {k : ℕ} {u : Ui} {t : Forest Info} (L : Links k u t) (d : NodeId) (h 
       let ls = D .sized .1 in
       let apart : (j : ℕ) → 0 < cnt j t → j ≢ i = λ j c e. let c′ : 0 < cnt i t = rw e at c in omega arith in
       let el = a-stored-layout-is-there l i freshLayout (omega arith) in
-      let es = a-a-state-is-stored-is-there s i freshState (omega arith) in
+      let es = a-stored-state-is-there s i freshState (omega arith) in
       record {
         sized = (length-set l i freshLayout ∙ ll, length-set s i freshState ∙ ls);
         worn = with-a-child-all (λ j g x. Worn (set l i freshLayout) (set s i freshState) j x)

@@ -27,7 +27,7 @@ use Rattle.tree.proofs.LinkRemovals.{Removed, remove-rel}
 use Rattle.tree.proofs.Generations.{remove-keeps-epochs, remove-generation-bound}
 use Rattle.tree.proofs.Ids.{live-id, cut-of-a-live-id}
 use Rattle.tree.proofs.Rounds.{Worn}
-use Rattle.tree.proofs.WearLaws.{a-a-state-is-stored-is-there, other-states-stay}
+use Rattle.tree.proofs.WearLaws.{a-stored-state-is-there, other-states-stay}
 use Rattle.tree.proofs.WellLaws.{a-bare-slot-is-well}
 use Rattle.tree.proofs.Parts.{Below, BelowMaybe, Links, Naming, Dress, Pool, Texts, Queue}
 use Rattle.tree.proofs.GivenIds.{NoEpochFalls, given-ids-stay-given, given-owners-stay-given, ruled-fields-stay-ruled}
@@ -50,14 +50,14 @@ unfolding resetStates
 a-fresh-state-stays-fresh l [] j b e = e
 a-fresh-state-stays-fresh l (i ∷ is) j b e =
     a-fresh-state-stays-fresh (set l i freshState) is j (rw length-set b)
-    (eq-cases j i (λ q _ _. rw q (a-a-state-is-stored-is-there l i freshState (rw q at b))) (λ q _ _. other-states-stay l i j freshState q ∙ e))
+    (eq-cases j i (λ q _ _. rw q (a-stored-state-is-there l i freshState (rw q at b))) (λ q _ _. other-states-stay l i j freshState q ∙ e))
 
 pub states-reset-are-fresh : (l : List StateSlot) (o : List ℕ) (j : ℕ) → j < length l → 0 < occ j o → stateAt (resetStates l o) j ≡ freshState
 unfolding resetStates
 states-reset-are-fresh l [] j b z = absurd (omega arith)
 states-reset-are-fresh l (i ∷ is) j b z =
     eq-cases i j
-    (λ q _ _. a-fresh-state-stays-fresh (set l i freshState) is j (rw length-set b) (rw (← q) (a-a-state-is-stored-is-there l i freshState (rw (← q) at b))))
+    (λ q _ _. a-fresh-state-stays-fresh (set l i freshState) is j (rw length-set b) (rw (← q) (a-stored-state-is-there l i freshState (rw (← q) at b))))
     (λ q _ z′. states-reset-are-fresh (set l i freshState) is j (rw length-set b) (omega arith))
 
 -- ---- the parts
