@@ -3,3 +3,4 @@ pub mod Invariant
 pub mod NameLaws
 pub mod RefreshSteps
 pub mod PointerSteps
+pub mod KeySteps
