@@ -7,6 +7,7 @@ use lib.ListN.{length}
 use Rattle.field.specs.declared.NodeId.{NodeId}
 use Rattle.field.specs.declared.Field.{Field}
 use Rattle.tree.specs.Tests.{Maybe, nothing, just}
+use Rattle.tree.specs.Slots.{at}
 use Rattle.tree.specs.Forest.{Forest}
 use Rattle.tree.specs.Nodes.{Info}
 use Rattle.tree.specs.Trees.{limitOf, poolOf, withInteraction, withFields, withWaiting}
@@ -27,6 +28,7 @@ pub record Inv (k : ℕ) (u : Ui) (h : History) : Type 0 where
   pub pool : Pool u
   pub texts : Texts (u .slots) (u .fields) (h .tree)
   pub queue : Queue u
+  pub root-is : at (u .slots) 0 .generation ≡ 1
   pub limit-is : limitOf u ≡ h .limit
   pub pool-is : poolOf u ≡ h .board .pool
   pub view-is : u .«solved_for» ≡ h .board .viewport

@@ -77,6 +77,7 @@ module _ (k : ℕ) (u : Ui) (h : History) (v : Inv k u h) (key : Key) (fo : Mayb
     pool = pool-of-interaction k (withFields u fs) named-text a (pool-of-fields k u named-text fs (v .pool));
     texts = x;
     queue = queue-of-interaction k (withFields u fs) named-text a (queue-of-fields k u named-text fs (v .queue));
+    root-is = v .root-is;
     limit-is = v .limit-is;
     pool-is = v .pool-is;
     view-is = v .view-is;

@@ -4,3 +4,4 @@ pub mod NameLaws
 pub mod RefreshSteps
 pub mod PointerSteps
 pub mod KeySteps
+pub mod CallSteps

@@ -80,6 +80,7 @@ refresh-by k u h hov v hn bits eb h′ e-limit e-named e-input e-tree e-pool e-v
       pool = pool-of-refresh u o (v .pool);
       texts = rw e-tree X;
       queue = queue-of-refresh u o (v .queue);
+      root-is = v .root-is;
       limit-is = v .limit-is ∙ sym e-limit;
       pool-is = v .pool-is ∙ sym e-pool;
       view-is = v .view-is ∙ sym e-view;
