@@ -24,7 +24,7 @@ use Rattle.tree.specs.Slots.{NIL, isLive, idAt, at}
 use Rattle.tree.specs.Styles.{noPatch}
 use Rattle.tree.specs.States.{inPool, sameId, styledAt, tabledAt}
 use Rattle.tree.specs.Layout.{passed, viewRect}
-use Rattle.tree.specs.Forest.{Forest, hasBoth, hasId, find, size, mapF, anyF, cutOf}
+use Rattle.tree.specs.Forest.{Forest, nil, node, hasBoth, hasId, find, size, mapF, anyF, cutOf}
 use Rattle.tree.specs.Nodes.{Info, withBox, withField, changeOf, wears, swaps, restyled, withTable, bare, placeF, hasField, bit}
 use Rattle.tree.specs.Fields.{fieldOf, firstField, vacant, reclaimed, claimed}
 use Rattle.tree.specs.Rules.{broken}
@@ -471,3 +471,140 @@ module _ (k : ℕ) (u : Ui) (h : History) (v : Inv k u h) where
       bool-cases (ltb 64 count)
       (λ b. refused-step k u h v (setPatchPool patches count) 6 nobody (silenced (guarded u 0 o) (refuses u Long 0) (e ∙ rw b)) (rw b))
       (λ b. accepted-step k u h v (setPatchPool patches count) (pooled u patches count) nobody (silenced (guarded u 0 o) (gives (pooled u patches count) 0) (e ∙ rw b)) (rw b) (pool-inv patches count long (ltb-false 64 count b)))
+
+  -- ---- a field
+
+  count-is-a-sum : (t : Forest Info) → fieldCount t ≡ wt (λ i g x. bit (hasField x)) t
+  count-is-a-sum nil = refl
+  count-is-a-sum (node i g x cs sib) = let a = count-is-a-sum cs in let b = count-is-a-sum sib in omega arith
+
+  field-inv : (d : NodeId) (hd : has h d ≡ true) (f : Field) → fieldOf d (u .fields) ≡ nothing → firstField vacant (reclaimed (limitOf u) (u .slots) (u .fields)) ≡ just f
+      → Inv (suc k) (withFields u (claimed d (reclaimed (limitOf u) (u .slots) (u .fields)))) (accept h (makeField d) nobody)
+  unfolding withFields accept
+  field-inv d hd f none some =
+      let fs = claimed d (reclaimed (limitOf u) (u .slots) (u .fields)) in
+      let b : ℕ → ℕ → Info → Bool = λ i g x. hasBoth d i g in
+      let y : Info → Maybe Text = λ x. keepText (x .text) in
+      let t′ : Forest Info = mapF (retexted b y) (h .tree) in
+      record {
+        links = links-after k (withFields u fs) t′ (links-of-fields k u t′ fs (texts-keep-links b y k u (h .tree) (v .links)));
+        naming = texts-keep-naming b y (u .slots) (h .tree) (h .named) (v .naming);
+        dress = dress-of-fields k u t′ fs (texts-keep-dress b y u (h .tree) (v .dress));
+        pool = pool-of-fields k u t′ fs (v .pool);
+        texts = a-field-is-made k u (h .tree) (v .links) (v .texts) d hd keepText refl (λ z. refl) f none some;
+        queue = queue-of-fields k u t′ fs (v .queue);
+        root-is = v .root-is;
+        limit-is = v .limit-is;
+        pool-is = v .pool-is;
+        view-is = v .view-is;
+        dirty-is = v .dirty-is;
+        pointer-is = v .pointer-is;
+        pressed-is = v .pressed-is;
+        focus-is = v .focus-is;
+        pressed-named = v .pressed-named;
+        focus-named = v .focus-named;
+      }
+
+  judge-of-field : (d : NodeId) (m : Maybe Info) → find d (h .tree) ≡ m → judge h (makeField d) ≡ judgeField h m
+  unfolding judge
+  judge-of-field d m q = ap (judgeField h) q
+
+  abbrev TextOf : ℕ → ℕ → Info → Type 0
+  TextOf i g x = x .text ≡ textIn (fieldOf (record { index = i; generation = g }) (u .fields))
+
+  -- the node has a field, takes a vacant one, or there is none
+  on-a-node : (d : NodeId) (hd : has h d ≡ true) (w : Known TextOf d (h .tree)) (m : Maybe Field) → fieldOf d (u .fields) ≡ m → tree.makeField u d ≡ takeField u d m → Kept k u h (makeField d)
+  unfolding step accept
+  on-a-node d hd w (just f) q e =
+      let x = w .load in
+      let hf : hasField x ≡ true = a-node-with-a-text-has-a-field x (just f) (w .holds ∙ ap textIn q) in
+      accepted-step k u h v (makeField d) u nobody (silenced (tree.makeField u d) (gives u 0) e) (judge-of-field d (just x) (w .found) ∙ rw hf)
+      (subst (λ (t : Forest Info). Inv (suc k) u (withTree h t (h .board .dirty))) (sym (a-field-stays k u (h .tree) (v .links) (v .texts) d hd keepText refl (λ z. refl) f q)) (inv-after k u h v))
+  on-a-node d hd w nothing q e =
+      let x = w .load in
+      let hf : hasField x ≡ false = a-node-with-a-text-has-a-field x nothing (w .holds ∙ ap textIn q) in
+      let c = count-is-a-sum (h .tree) in
+      let n = v .texts .eight in
+      a-field-is-vacant-or-every-field-is-a-live-nodes (v .links .rel) (u .fields) (v .texts .owners) (v .texts .texts)
+      (λ z s.
+      let l : 8 ≤ fieldCount (h .tree) = omega arith in
+      refused-step k u h v (makeField d) 3 nobody (silenced (tree.makeField u d) (refuses u Full 0) (e ∙ ap (takeVacant u d) z))
+      (judge-of-field d (just x) (w .found) ∙ rw (hf, le-ltb (fieldCount (h .tree)) 8 l)))
+      (λ f z s.
+      let l : fieldCount (h .tree) < 8 = omega arith in
+      accepted-step k u h v (makeField d) (withFields u (claimed d (reclaimed (limitOf u) (u .slots) (u .fields)))) nobody
+      (silenced (tree.makeField u d) (gives (withFields u (claimed d (reclaimed (limitOf u) (u .slots) (u .fields)))) 0) (e ∙ ap (takeVacant u d) z))
+      (judge-of-field d (just x) (w .found) ∙ rw (hf, lt-ltb (fieldCount (h .tree)) 8 l)) (field-inv d hd f q z))
+
+  pub fields : (d : NodeId) → Kept k u h (makeField d)
+  unfolding step tree.makeField
+  fields d =
+      let o : Outcome ℕ = takeField u d (fieldOf d (u .fields)) in
+      let e = on-live-is k u h v d 0 o in
+      bool-cases (has h d)
+      (λ b. on-a-node d b (find-known TextOf d (h .tree) (v .texts .texts) b) (fieldOf d (u .fields)) refl (e ∙ rw b))
+      (λ b. refused-step k u h v (makeField d) 2 nobody (silenced (onLive u d 0 o) (refuses u Missing 0) (e ∙ rw b)) (judge-of-field d nothing (find-nothing d (h .tree) b)))
+
+  -- ---- a pass
+
+  pass-inv : (w : Viewport) → Inv (suc k) (withPass u (passed (u .slots) (u .layout) w) w)
+      (record { limit = h .limit; tree = placeF (h .tree) (viewRect w ∷ []); named = h .named; board = record { pool = h .board .pool; viewport = w; dirty = false }; input = h .input })
+  unfolding withPass
+  pass-inv w =
+      let rs = viewRect w ∷ [] in
+      let u′ = withPass u (passed (u .slots) (u .layout) w) w in
+      let t′ : Forest Info = placeF (h .tree) rs in
+      let e = placing-keeps-the-shape (h .tree) rs in
+      record {
+        links = links-after k u′ t′ (links-of-shape (h .tree) t′ e k u u′ refl refl refl refl (v .links));
+        naming = naming-by-shape (h .tree) t′ e (u .slots) (h .named) (v .naming)
+            (placing-keeps-what-boxes-leave-alone (λ i g x. (x .name < length (h .named)) × (getD (h .named) (x .name) nobody ≡ record { index = i; generation = g })) (λ i g x _ p. p) (h .tree) rs (v .naming .own));
+        dress = pass-keeps-dress k u (h .tree) (v .links) (v .dress) w;
+        pool = record { long = v .pool .long; few = v .pool .few };
+        texts = texts-by-shape (h .tree) t′ e (u .slots) (u .fields) (v .texts)
+            (placing-keeps-what-boxes-leave-alone TextOf (λ i g x _ p. p) (h .tree) rs (v .texts .texts));
+        queue = record { long = v .queue .long; few = v .queue .few };
+        root-is = v .root-is;
+        limit-is = v .limit-is;
+        pool-is = v .pool-is;
+        view-is = refl;
+        dirty-is = refl;
+        pointer-is = v .pointer-is;
+        pressed-is = v .pressed-is;
+        focus-is = v .focus-is;
+        pressed-named = v .pressed-named;
+        focus-named = v .focus-named;
+      }
+
+  pub passes : (w : Viewport) → Kept k u h (solve w)
+  unfolding step judge accept tree.solve
+  passes w =
+      let done : Outcome ℕ = gives (withPass u (passed (u .slots) (u .layout) w) w) 0 in
+      let o : Outcome ℕ = pick (not (u .dirty) && sameView (u .«solved_for») w) (gives u 0) done in
+      let e = guarded-is k u h v 0 o in
+      let q : (not (u .dirty) && sameView (u .«solved_for») w) ≡ (not (h .board .dirty) && sameView (h .board .viewport) w) =
+      ap₂ (λ (b : Bool) (z : Viewport). not b && sameView z w) (v .dirty-is) (v .view-is) in
+      bool-cases (not (h .board .dirty) && sameView (h .board .viewport) w)
+      (λ b. accepted-step k u h v (solve w) u nobody (silenced (guarded u 0 o) (gives u 0) (e ∙ rw (q ∙ b))) refl (rw b (inv-after k u h v)))
+      (λ b. accepted-step k u h v (solve w) (withPass u (passed (u .slots) (u .layout) w) w) nobody (silenced (guarded u 0 o) done (e ∙ rw (q ∙ b))) refl (rw b (pass-inv w)))
+
+  -- ---- every call
+
+  pub every-call : k < 2 ^ 63 → (c : Call) → Machine c → Kept k u h c
+  every-call small (insert d) m = inserts d
+  every-call small (remove d) m = removes small d
+  every-call small (setStyle d s) m = styles d s
+  every-call small (setStateTable d table) m = tables d table
+  every-call small (setPatchPool patches count) m = pools patches count m
+  every-call small (makeField d) m = fields d
+  every-call small (solve w) m = passes w
+  every-call small (handle e) m = event-handled k u h v e
+  every-call small nextOutput m = output-taken k u h v
+  every-call small (fieldText d) m = text-read k u h v d
+  every-call small (fieldCursor d) m = caret-read k u h v d
+  every-call small (metres d) m = metres-read k u h v d
+  every-call small (rect d) m = rect-read k u h v d
+  every-call small (live d) m = live-read k u h v d
+  every-call small (firstChild d) m = first-read k u h v d
+  every-call small (nextSibling d) m = next-read k u h v d
+  every-call small (absorb s) m = absorb-read k u h v s
