@@ -5,3 +5,4 @@ pub mod RefreshSteps
 pub mod PointerSteps
 pub mod KeySteps
 pub mod CallSteps
+pub mod Demand3

@@ -1,0 +1,205 @@
+-- Demand 3 holds: the invariant holds at the start and after every call, and gives what the calls answer. Assumes nothing.
+use mathlib.Core.Path.{_≡_, refl, sym, ap, ap₂, subst, _∙_}
+use mathlib.Core.Bool.{Bool, true, false, _&&_, not}
+use mathlib.Core.List.{List, [], _∷_, _++_, append-assoc, append-nil}
+use Prim.Native.Nat.{ℕ, zero, suc, _+_, _≤_, _<_, _^_}
+use native.Mathlib.Omega.{arith}
+use borrow.Author.Tests.{ltb-false}
+use lib.Dec.{ltb}
+use lib.IntN.{ℤ, pos}
+use lib.ListN.{length, getD}
+use Rattle.field.specs.declared.NodeId.{NodeId}
+use Rattle.tree.specs.Tests.{pick, same}
+use Rattle.tree.specs.States.{sameId}
+use Rattle.tree.specs.Calls as tree
+use Rattle.tree.specs.Calls.{Outcome, fresh, gives, refuses, nobody, sameView}
+use Rattle.text.specs.declared.refusal.Refusal.the-variants.{Large}
+use Rattle.tree.specs.declared.Ui.{Ui}
+use Rattle.tree.proofs.TestLaws.{bool-cases, eq-cases, same-yes, same-no}
+use Rattle.tree.proofs.Parts.{Naming}
+use Rattle.tree.proofs.Starts.{start-root-generation}
+use Rattle.tree.proofs.StartParts.{start-has-links, start-has-names, start-has-dress, start-has-a-pool, start-has-texts, start-has-a-queue}
+use Rattle.tree.proofs.ReadParts.{live-answers-whether-a-node-has-it, children-by-the-links-are-the-nodes, field-text-answers-the-nodes-text, field-cursor-answers-the-nodes-caret, metres-of-the-field-are-the-nodes, rect-answers-the-nodes-box}
+use Rattle.desk.specs.Events as desk
+use Rattle.desk.specs.History.{History, Call, limitFrom, start, judge, accept, note, grown, refresh, hears, textSaid, caretSaid, metresSaid, rectSaid, rootId}
+use Rattle.desk.specs.History.Call.{insert, remove, setStyle, setStateTable, setPatchPool, makeField, solve, handle, nextOutput, fieldText, fieldCursor, metres, rect, live, firstChild, nextSibling, absorb}
+use Rattle.desk.specs.Demand3.{step, run, numbers, feed, isInsert, given, Machine, Machines, follow, judged, Agree, Others, Distinct, Holds, Demand3}
+use Rattle.desk.specs.declared.UiEvent.{UiEvent}
+use Rattle.desk.specs.declared.UiEvent.the-variants.{PointerMoved, PointerPressed, PointerReleased, TextEntered, Edit}
+use Rattle.desk.proofs.Invariant.{Inv}
+use Rattle.desk.proofs.NameLaws.{id-cases}
+use Rattle.desk.proofs.CallSteps.{Kept, sound, every-call}
+
+-- ---- the start
+
+limit-in-range : (limit : ℕ) → (1 ≤ limitFrom limit) × (limitFrom limit ≤ 128)
+unfolding limitFrom
+limit-in-range limit =
+    bool-cases (ltb 128 limit)
+    (λ b. rw b (omega arith, omega arith))
+    (λ b. let l = ltb-false 128 limit b in
+    eq-cases limit 0 (λ e s _. rw (b, s) (omega arith, omega arith)) (λ e s _. rw (b, s) (nonzero limit e, l)))
+  where
+    nonzero : (n : ℕ) → (n ≡ 0 → ⊥) → 1 ≤ n
+    nonzero zero e = absurd (e refl)
+    nonzero (suc n) e = omega arith
+
+new-is-fresh : (limit : ℕ) → tree.newTree limit .next ≡ fresh (limitFrom limit)
+unfolding tree.newTree limitFrom
+new-is-fresh limit = bool-cases (ltb 128 limit) (λ b. rw b) (λ b. rw b)
+
+starts-fresh : (limit : ℕ) → Inv 0 (fresh (limitFrom limit)) (start limit)
+unfolding start fresh
+starts-fresh limit =
+    let n = limitFrom limit in
+    let r = limit-in-range limit in
+    record {
+      links = start-has-links n (r .0) (r .1);
+      naming = start-has-names n (r .0) (r .1);
+      dress = start-has-dress n (r .0) (r .1);
+      pool = start-has-a-pool n (r .0) (r .1);
+      texts = start-has-texts n (r .0) (r .1);
+      queue = start-has-a-queue n (r .0) (r .1);
+      root-is = start-root-generation n;
+      limit-is = refl;
+      pool-is = refl;
+      view-is = refl;
+      dirty-is = refl;
+      pointer-is = refl;
+      pressed-is = refl;
+      focus-is = refl;
+      pressed-named = tt;
+      focus-named = tt;
+    }
+
+pub starts : (limit : ℕ) → Inv 0 (tree.newTree limit .next) (start limit)
+starts limit = subst (λ (u : Ui). Inv 0 u (start limit)) (sym (new-is-fresh limit)) (starts-fresh limit)
+
+-- ---- what the invariant gives
+
+pub agrees : (k : ℕ) (u : Ui) (h : History) → Inv k u h → Agree u h
+unfolding textSaid caretSaid metresSaid rectSaid desk.metres
+agrees k u h v =
+    let b = sound k u h v in
+    record {
+      live-is = live-answers-whether-a-node-has-it (v .links) b;
+      children-are = children-by-the-links-are-the-nodes (v .links) b;
+      text-is = field-text-answers-the-nodes-text (v .links) b (v .texts);
+      caret-is = field-cursor-answers-the-nodes-caret (v .links) b (v .texts);
+      metres-are = metres-of-the-field-are-the-nodes (v .links) b (v .texts);
+      rect-is = rect-answers-the-nodes-box (v .links) b (v .dress .boxed);
+      focus-is = v .focus-is;
+    }
+
+-- ---- the names that were made are the ids that were given
+
+heard-named : (h : History) (e : UiEvent) → hears h e .named ≡ h .named
+heard-named h (PointerMoved x y) = refl
+heard-named h PointerPressed = refl
+heard-named h PointerReleased = refl
+heard-named h (TextEntered ch) = refl
+heard-named h (Edit op) = refl
+
+refreshed-named : (h : History) → refresh h .named ≡ h .named
+unfolding refresh
+refreshed-named h = refl
+
+-- the ids that a call adds
+abbrev added : Call → ℕ → NodeId → List NodeId
+added c n d = pick (isInsert c) (pick (same n 0) (d ∷ []) []) []
+
+accepted-named : (h : History) (c : Call) (d : NodeId) → accept h c d .named ≡ h .named ++ pick (isInsert c) (d ∷ []) []
+unfolding accept grown
+accepted-named h (insert e) d = refl
+accepted-named h (remove e) d = sym (append-nil (h .named))
+accepted-named h (setStyle e s) d = sym (append-nil (h .named))
+accepted-named h (setStateTable e table) d = sym (append-nil (h .named))
+accepted-named h (setPatchPool patches count) d = sym (append-nil (h .named))
+accepted-named h (makeField e) d = sym (append-nil (h .named))
+accepted-named h (solve w) d =
+    bool-cases (not (h .board .dirty) && sameView (h .board .viewport) w) (λ b. rw b (sym (append-nil (h .named)))) (λ b. rw b (sym (append-nil (h .named))))
+accepted-named h (handle e) d = refreshed-named (hears h e) ∙ heard-named h e ∙ sym (append-nil (h .named))
+accepted-named h nextOutput d = sym (append-nil (h .named))
+accepted-named h (fieldText e) d = sym (append-nil (h .named))
+accepted-named h (fieldCursor e) d = sym (append-nil (h .named))
+accepted-named h (metres e) d = sym (append-nil (h .named))
+accepted-named h (rect e) d = sym (append-nil (h .named))
+accepted-named h (live e) d = sym (append-nil (h .named))
+accepted-named h (firstChild e) d = sym (append-nil (h .named))
+accepted-named h (nextSibling e) d = sym (append-nil (h .named))
+accepted-named h (absorb s) d = sym (append-nil (h .named))
+
+pick-none : (b : Bool) → pick {A = List NodeId} b [] [] ≡ []
+pick-none true = refl
+pick-none false = refl
+
+noted-named : (h : History) (c : Call) (d : NodeId) → note h c d .named ≡ h .named ++ added c (judge h c) d
+unfolding note
+noted-named h c d =
+    bool-cases (same (judge h c) 0)
+    (λ b. rw b (accepted-named h c d))
+    (λ b. rw (b, pick-none (isInsert c)) (sym (append-nil (h .named))))
+
+given-by : (u : Ui) (c : Call) (cs : List Call) → given u (c ∷ cs) ≡ added c (step u c .number) (step u c .told) ++ given (step u c .next) cs
+given-by u c cs = go (isInsert c) (same (step u c .number) 0)
+  where
+    rest : List NodeId
+    rest = given (step u c .next) cs
+
+    go : (b e : Bool) → pick b (pick e (step u c .told ∷ rest) rest) rest ≡ pick b (pick e (step u c .told ∷ []) []) [] ++ rest
+    go true true = refl
+    go true false = refl
+    go false e = refl
+
+-- ---- the list
+
+pub record Runs (k : ℕ) (u : Ui) (h : History) (cs : List Call) : Type 0 where
+  pub alike : numbers u cs ≡ judged h cs (feed u cs)
+  pub ends : Inv (k + length cs) (run u cs) (follow h cs (feed u cs))
+  pub names : follow h cs (feed u cs) .named ≡ h .named ++ given u cs
+
+pub runs : (k : ℕ) (u : Ui) (h : History) (cs : List Call) → Inv k u h → k + length cs < 2 ^ 63 → Machines cs → Runs k u h cs
+runs k u h [] v small m = record {
+  alike = refl;
+  ends = let e : k + 0 ≡ k = omega arith in rw e v;
+  names = sym (append-nil (h .named));
+}
+runs k u h (c ∷ cs) v small m =
+    let s = step u c in
+    let q : Kept k u h c = every-call k u h v (omega arith) c (m .0) in
+    let r : Runs (suc k) (s .next) (note h c (s .told)) cs = runs (suc k) (s .next) (note h c (s .told)) cs (q .goes-on) (omega arith) (m .1) in
+    record {
+      alike = ap₂ (λ (n : ℕ) (ns : List ℕ). n ∷ ns) (q .judged-so) (r .alike);
+      ends = let e : k + suc (length cs) ≡ suc k + length cs = omega arith in rw e (r .ends);
+      names =
+          r .names
+          ∙ ap (λ (l : List NodeId). l ++ given (s .next) cs) (noted-named h c (s .told) ∙ ap (λ (n : ℕ). h .named ++ added c n (s .told)) (sym (q .judged-so)))
+          ∙ append-assoc (h .named) (added c (s .number) (s .told)) (given (s .next) cs)
+          ∙ ap (λ (l : List NodeId). h .named ++ l) (sym (given-by u c cs));
+    }
+
+-- ---- no id was given twice
+
+apart-is-distinct : (l : List NodeId) → ((m m′ : ℕ) → m < length l → m′ < length l → getD l m nobody ≡ getD l m′ nobody → m ≡ m′) → Distinct l
+apart-is-distinct [] h = tt
+apart-is-distinct (d ∷ ds) h =
+    (others ds (λ j b e. let z = h 0 (suc j) (omega arith) (omega arith) e in omega arith), apart-is-distinct ds (λ m m′ b b′ e. let z = h (suc m) (suc m′) (omega arith) (omega arith) e in omega arith))
+  where
+    others : (es : List NodeId) → ((j : ℕ) → j < length es → d ≡ getD es j nobody → ⊥) → Others d es
+    others [] q = tt
+    others (e ∷ es) q =
+        (id-cases d e (λ r _. absurd (q 0 (omega arith) r)) (λ _ s. s), others es (λ j b r. q (suc j) (omega arith) r))
+
+-- ---- the theorem
+
+pub demand-3 : Demand3
+unfolding start
+demand-3 limit l cs n m =
+    let u = tree.newTree limit .next in
+    let h = start limit in
+    let r : Runs 0 u h cs = runs 0 u h cs (starts limit) (omega arith) m in
+    record {
+      refused-alike = r .alike;
+      ids-differ = apart-is-distinct (rootId ∷ given u cs) (subst (λ (ds : List NodeId). (i j : ℕ) → i < length ds → j < length ds → getD ds i nobody ≡ getD ds j nobody → i ≡ j) (r .names) (r .ends .naming .apart));
+      agree = agrees (0 + length cs) (run u cs) (follow h cs (feed u cs)) (r .ends);
+    }
