@@ -3,16 +3,14 @@ use mathlib.Core.Path.{_≡_, refl, sym, ap, ap₂, subst, _∙_}
 use mathlib.Core.Logic.{_≢_}
 use mathlib.Core.Bool.{Bool, true, false, _&&_, _||_, not}
 use mathlib.Core.List.{List, [], _∷_, _++_}
-use Prim.Native.Nat.{ℕ, zero, suc, _+_, _≤_, _<_, _^_}
+use Prim.Native.Nat.{ℕ, suc, _+_, _≤_, _<_, _^_}
 use native.Mathlib.Omega.{arith}
 use borrow.Author.Tests.{lt-ltb, le-ltb, ltb-false}
 use lib.Dec.{ltb}
-use lib.IntN.{ℤ, pos, negsuc}
-use lib.ListN.{length, getD, take, length-append, List·getD-append}
+use lib.ListN.{length, getD, length-append, List·getD-append}
 use lib.Seq.{length-take-le}
-use Rattle.text.specs.Refusal.{Answer, accepted, refused, numberOf}
-use Rattle.text.specs.declared.refusal.Refusal.{Refusal}
-use Rattle.text.specs.declared.refusal.Refusal.the-variants.{Broken, Large, Missing, Full, Root, Foreign, Long, Fieldless}
+use Rattle.text.specs.Refusal.{Answer}
+use Rattle.text.specs.declared.refusal.Refusal.the-variants.{Broken, Missing, Full, Root, Foreign, Long}
 use Rattle.arithmetic.specs.declared.fold.StateHash.{StateHash}
 use Rattle.field.specs.Text.{Text, text}
 use Rattle.field.specs.declared.NodeId.{NodeId}
@@ -24,13 +22,13 @@ use Rattle.tree.specs.Slots.{NIL, isLive, idAt, at}
 use Rattle.tree.specs.Styles.{noPatch}
 use Rattle.tree.specs.States.{inPool, sameId, styledAt, tabledAt}
 use Rattle.tree.specs.Layout.{passed, viewRect}
-use Rattle.tree.specs.Forest.{Forest, nil, node, hasBoth, hasId, find, size, mapF, anyF, cutOf}
-use Rattle.tree.specs.Nodes.{Info, withBox, withField, changeOf, wears, swaps, restyled, withTable, bare, placeF, hasField, bit}
+use Rattle.tree.specs.Forest.{Forest, nil, node, hasBoth, find, size, mapF, anyF, cutOf}
+use Rattle.tree.specs.Nodes.{Info, changeOf, wears, swaps, restyled, withTable, bare, placeF, hasField, bit}
 use Rattle.tree.specs.Fields.{fieldOf, firstField, vacant, reclaimed, claimed}
 use Rattle.tree.specs.Rules.{broken}
-use Rattle.tree.specs.Trees.{limitOf, poolOf, waitingOf, withNodes, withLooks, withPool, withFields, withPass, withWaiting}
+use Rattle.tree.specs.Trees.{limitOf, waitingOf, withNodes, withLooks, withPool, withFields, withPass, withWaiting}
 use Rattle.tree.specs.Calls as tree
-use Rattle.tree.specs.Calls.{Outcome, gives, refuses, guarded, onLive, nobody, sameZ, sameView, insertAt, removeAt, pooled, takeField, takeVacant}
+use Rattle.tree.specs.Calls.{Outcome, gives, refuses, guarded, onLive, nobody, sameView, insertAt, removeAt, pooled, takeField, takeVacant}
 use Rattle.tree.specs.declared.Ui.{Ui}
 use Rattle.tree.specs.declared.Style.{Style}
 use Rattle.tree.specs.declared.Rect.{Rect}
@@ -38,21 +36,21 @@ use Rattle.tree.specs.declared.StatePatch.{StatePatch}
 use Rattle.tree.specs.declared.Viewport.{Viewport}
 use Rattle.tree.proofs.TestLaws.{bool-cases, same-yes, same-no, eq-cases, δ-other}
 use Rattle.tree.proofs.ForestLaws.{cnt, wt}
-use Rattle.tree.proofs.Payloads.{AllF, all-map, all-mapF, shape-map}
-use Rattle.tree.proofs.Ids.{root-is-live, live-just-where-a-node-has-it, live-id, free-cases, Known, find-known, find-nothing, full-when-none-is-free}
+use Rattle.tree.proofs.Payloads.{all-map, all-mapF, shape-map}
+use Rattle.tree.proofs.Ids.{root-is-live, live-just-where-a-node-has-it, live-id, free-cases, Known, find-known, find-nothing}
 use Rattle.tree.proofs.PassLaws.{placing-keeps-what-boxes-leave-alone, placing-keeps-the-shape}
-use Rattle.tree.proofs.Parts.{Links, Naming, Dress, Pool, Texts, Queue, textIn}
+use Rattle.tree.proofs.Parts.{Links, Naming, Dress, Texts, textIn}
 use Rattle.tree.proofs.ShapeParts.{links-after, links-of-shape, naming-by-shape, texts-by-shape}
 use Rattle.tree.proofs.LookParts.{style-keeps-dress, table-keeps-dress, table-dirties, pool-keeps-dress, pool-dirties, pass-keeps-dress}
 use Rattle.tree.proofs.InsertParts.{insert-keeps-links, insert-keeps-dress, insert-keeps-texts, insert-keeps-the-pool, insert-keeps-the-queue, insert-keeps-naming, withChild, an-insertion-raises-one-epoch, no-node-has-the-slot-taken}
 use Rattle.tree.proofs.RemoveParts.{remove-keeps-links, remove-keeps-naming, remove-keeps-dress, remove-keeps-texts, remove-keeps-the-pool, remove-keeps-the-queue, a-removal-keeps-every-epoch}
 use Rattle.tree.proofs.NotBroken.{not-broken}
 use Rattle.tree.proofs.ReadParts.{rect-answers-the-nodes-box, field-text-answers-the-nodes-text, field-cursor-answers-the-nodes-caret, metres-of-the-field-are-the-nodes}
-use Rattle.tree.proofs.FieldLaws.{a-field-is-vacant-or-every-field-is-a-live-nodes, a-node-with-a-text-has-a-field, isField}
+use Rattle.tree.proofs.FieldLaws.{a-field-is-vacant-or-every-field-is-a-live-nodes, a-node-with-a-text-has-a-field}
 use Rattle.tree.proofs.FieldParts.{texts-keep-dress, texts-keep-links, texts-keep-naming, retexted, a-field-stays, a-field-is-made}
 use Rattle.desk.specs.Events as desk
 use Rattle.desk.specs.Events.{handled, hitOf, heard, takeOldest}
-use Rattle.desk.specs.History.{History, Call, has, unless, judge, judgeField, accept, note, withTree, grown, keepText, idNamed, fieldCount, rootId, refresh, hears, textSaid, caretSaid, metresSaid, rectSaid}
+use Rattle.desk.specs.History.{History, Call, has, judge, judgeField, accept, note, withTree, grown, keepText, idNamed, fieldCount, rootId, hears, textSaid, caretSaid, metresSaid, rectSaid}
 use Rattle.desk.specs.History.Call.{insert, remove, setStyle, setStateTable, setPatchPool, makeField, solve, handle, nextOutput, fieldText, fieldCursor, metres, rect, live, firstChild, nextSibling, absorb}
 use Rattle.desk.specs.Demand3.{Step, step, silent, telling, Machine}
 use Rattle.desk.specs.declared.UiEvent.{UiEvent}

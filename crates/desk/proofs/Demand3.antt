@@ -6,24 +6,20 @@ use Prim.Native.Nat.{ℕ, zero, suc, _+_, _≤_, _<_, _^_}
 use native.Mathlib.Omega.{arith}
 use borrow.Author.Tests.{ltb-false}
 use lib.Dec.{ltb}
-use lib.IntN.{ℤ, pos}
 use lib.ListN.{length, getD}
 use Rattle.field.specs.declared.NodeId.{NodeId}
 use Rattle.tree.specs.Tests.{pick, same}
-use Rattle.tree.specs.States.{sameId}
 use Rattle.tree.specs.Calls as tree
-use Rattle.tree.specs.Calls.{Outcome, fresh, gives, refuses, nobody, sameView}
-use Rattle.text.specs.declared.refusal.Refusal.the-variants.{Large}
+use Rattle.tree.specs.Calls.{fresh, nobody, sameView}
 use Rattle.tree.specs.declared.Ui.{Ui}
-use Rattle.tree.proofs.TestLaws.{bool-cases, eq-cases, same-yes, same-no}
-use Rattle.tree.proofs.Parts.{Naming}
+use Rattle.tree.proofs.TestLaws.{bool-cases, eq-cases}
 use Rattle.tree.proofs.Starts.{start-root-generation}
 use Rattle.tree.proofs.StartParts.{start-has-links, start-has-names, start-has-dress, start-has-a-pool, start-has-texts, start-has-a-queue}
 use Rattle.tree.proofs.ReadParts.{live-answers-whether-a-node-has-it, children-by-the-links-are-the-nodes, field-text-answers-the-nodes-text, field-cursor-answers-the-nodes-caret, metres-of-the-field-are-the-nodes, rect-answers-the-nodes-box}
 use Rattle.desk.specs.Events as desk
 use Rattle.desk.specs.History.{History, Call, limitFrom, start, judge, accept, note, grown, refresh, hears, textSaid, caretSaid, metresSaid, rectSaid, rootId}
 use Rattle.desk.specs.History.Call.{insert, remove, setStyle, setStateTable, setPatchPool, makeField, solve, handle, nextOutput, fieldText, fieldCursor, metres, rect, live, firstChild, nextSibling, absorb}
-use Rattle.desk.specs.Demand3.{step, run, numbers, feed, isInsert, given, Machine, Machines, follow, judged, Agree, Others, Distinct, Holds, Demand3}
+use Rattle.desk.specs.Demand3.{step, run, numbers, feed, isInsert, given, Machines, follow, judged, Agree, Others, Distinct, Demand3}
 use Rattle.desk.specs.declared.UiEvent.{UiEvent}
 use Rattle.desk.specs.declared.UiEvent.the-variants.{PointerMoved, PointerPressed, PointerReleased, TextEntered, Edit}
 use Rattle.desk.proofs.Invariant.{Inv}

@@ -1,28 +1,25 @@
 -- A key edits the field of the node in focus, and the text of the node that the history's focus names: the same node, if it lives. Assumes nothing.
-use mathlib.Core.Path.{_≡_, refl, sym, ap, subst, _∙_}
-use mathlib.Core.Bool.{Bool, true, false, _&&_}
-use mathlib.Core.List.{List, [], _∷_}
-use Prim.Native.Nat.{ℕ, _+_, _≤_, _<_}
-use native.Mathlib.Omega.{arith}
+use mathlib.Core.Path.{_≡_, refl, sym, subst, _∙_}
+use mathlib.Core.Bool.{true, _&&_}
+use mathlib.Core.List.{List}
+use Prim.Native.Nat.{ℕ, _+_, _<_}
 use lib.Dec.{leb}
 use lib.ListN.{length, getD}
 use Rattle.text.specs.Utf8.{isScalar, encoded}
-use Rattle.field.specs.Text.{Text}
 use Rattle.field.specs.Fields.{inRange, fieldOk, moved, cutOut, putIn, editedIn, edited, inserted, textOf}
 use Rattle.field.specs.declared.NodeId.{NodeId}
 use Rattle.field.specs.declared.MaybeId.{MaybeId}
-use Rattle.field.specs.declared.MaybeId.the-variants.{Absent, Present}
+use Rattle.field.specs.declared.MaybeId.the-variants.{Present}
 use Rattle.field.specs.declared.Field.{Field}
 use Rattle.field.specs.declared.EditOp.{EditOp}
 use Rattle.field.specs.declared.EditOp.the-variants.{Backspace, Delete, Left, Right, Home, End}
 use Rattle.field.proofs.Laws.{edit-keeps-the-rules, edit-keeps-64-bytes, edit-is-the-texts, insert-keeps-the-rules, insert-keeps-64-bytes, insert-is-the-texts}
-use Rattle.tree.specs.Tests.{pick, same, Maybe, nothing, just}
-use Rattle.tree.specs.Slots.{isLive}
-use Rattle.tree.specs.States.{sameId, isId}
+use Rattle.tree.specs.Tests.{pick, Maybe, nothing, just}
+use Rattle.tree.specs.States.{sameId}
 use Rattle.tree.specs.Forest.{Forest, nil, node, hasId, mapF}
 use Rattle.tree.specs.Nodes.{Info, withField, isNamed, changeNamed}
 use Rattle.tree.specs.Fields.{owns, fieldOf, changeFirst}
-use Rattle.tree.specs.Trees.{limitOf, withInteraction, withFields}
+use Rattle.tree.specs.Trees.{withInteraction, withFields}
 use Rattle.tree.specs.Calls.{nobody}
 use Rattle.tree.specs.declared.Ui.{Ui}
 use Rattle.tree.specs.declared.Interaction.{Interaction}
@@ -30,10 +27,9 @@ use Rattle.tree.proofs.TestLaws.{bool-cases}
 use Rattle.tree.proofs.Payloads.{AllF}
 use Rattle.tree.proofs.Ids.{live-just-where-a-node-has-it}
 use Rattle.tree.proofs.Parts.{Texts}
-use Rattle.tree.proofs.FieldParts.{retexted, texts-keep-dress, texts-keep-links, texts-keep-naming, edit-keeps-texts, no-edit-of-a-dead-id, no-edit-without-a-field, unchanged-at-each-node, no-node-is-a-dead-id}
-use Rattle.desk.specs.Events.{keyedField, changed, editFold, foldedBy, editField, editFocused, heard, hitOf}
-use Rattle.desk.specs.History.{History, withTree, idNamed, keyText, mapMaybe, typedInto, hears}
-use Rattle.desk.specs.declared.UiEvent.the-variants.{TextEntered, Edit}
+use Rattle.tree.proofs.FieldParts.{retexted, texts-keep-dress, texts-keep-links, texts-keep-naming, edit-keeps-texts, no-edit-of-a-dead-id, no-edit-without-a-field, unchanged-at-each-node}
+use Rattle.desk.specs.Events.{keyedField, changed, editFold, foldedBy, editField, editFocused}
+use Rattle.desk.specs.History.{History, withTree, idNamed, keyText, mapMaybe, typedInto}
 use Rattle.desk.specs.declared.Key.{Key}
 use Rattle.desk.specs.declared.Key.the-variants.{Char, Op}
 use Rattle.desk.proofs.Invariant.{Inv, NameIn, links-of-interaction, dress-of-interaction, pool-of-interaction, queue-of-interaction, links-of-fields, dress-of-fields, pool-of-fields, queue-of-fields}

@@ -6,3 +6,4 @@ pub mod PointerSteps
 pub mod KeySteps
 pub mod CallSteps
 pub mod Demand3
+pub mod Corollaries

@@ -1,14 +1,14 @@
 -- An id means a node just where the name does: every node has the id at the place of its name, and no two such ids are equal. Assumes nothing.
 use mathlib.Core.Path.{_≡_, refl, sym, ap, ap₂, subst, _∙_}
-use mathlib.Core.Bool.{Bool, true, false, _&&_}
-use mathlib.Core.List.{List, [], _∷_}
-use Prim.Native.Nat.{ℕ, zero, suc, _+_, _≤_, _<_}
+use mathlib.Core.Bool.{true, false}
+use mathlib.Core.List.{List}
+use Prim.Native.Nat.{ℕ, _+_, _<_}
 use native.Mathlib.Omega.{arith}
 use lib.ListN.{length, getD}
 use Rattle.field.specs.declared.NodeId.{NodeId}
 use Rattle.field.specs.declared.MaybeId.{MaybeId}
-use Rattle.field.specs.declared.MaybeId.the-variants.{Absent, Present}
-use Rattle.tree.specs.Tests.{pick, same, Maybe, nothing, just}
+use Rattle.field.specs.declared.MaybeId.the-variants.{Present}
+use Rattle.tree.specs.Tests.{pick, Maybe, nothing, just}
 use Rattle.tree.specs.Slots.{Slots, at, idAt}
 use Rattle.tree.specs.States.{sameId, isId, bitsOf, bitsAt}
 use Rattle.tree.specs.Forest.{Forest}
@@ -16,11 +16,11 @@ use Rattle.tree.specs.Nodes.{Info, isNamed, bitsFor}
 use Rattle.tree.specs.Trees.{limitOf}
 use Rattle.tree.specs.Calls.{nobody}
 use Rattle.tree.specs.declared.Ui.{Ui}
-use Rattle.tree.proofs.TestLaws.{eq-cases, same-yes, same-no}
+use Rattle.tree.proofs.TestLaws.{eq-cases, same-yes}
 use Rattle.tree.proofs.ForestLaws.{cnt}
 use Rattle.tree.proofs.Payloads.{AllF, all-map, all-both}
 use Rattle.tree.proofs.Ids.{nodes-have-their-slots-generation}
-use Rattle.tree.proofs.HitLaws.{Names, NodeNamed}
+use Rattle.tree.proofs.HitLaws.{Names}
 use Rattle.tree.proofs.HitLaws.Names.{neither, one-node}
 use Rattle.tree.proofs.Parts.{Below, Links, Naming}
 use Rattle.desk.specs.History.{idNamed}

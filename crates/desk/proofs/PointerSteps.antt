@@ -1,30 +1,29 @@
 -- A move, a press and a release do to the tree what they do to the history. Assumes nothing.
 use mathlib.Core.Path.{_≡_, refl, sym, ap, subst, _∙_}
-use mathlib.Core.Bool.{Bool, true, false}
 use mathlib.Core.List.{List, [], _∷_, _++_}
-use Prim.Native.Nat.{ℕ, suc, _+_, _-_, _≤_, _<_, min}
+use Prim.Native.Nat.{ℕ, _+_, _-_, _≤_, _<_}
 use native.Mathlib.Omega.{arith}
 use borrow.Author.Tests.{ltb-true}
 use lib.Dec.{ltb}
 use lib.IntN.{ℤ}
-use lib.ListN.{length, getD, take, drop, length-append, length-drop}
+use lib.ListN.{length, getD, drop, length-append, length-drop}
 use lib.Seq.{length-take-le}
 use Rattle.field.specs.declared.NodeId.{NodeId}
 use Rattle.field.specs.declared.MaybeId.{MaybeId}
-use Rattle.field.specs.declared.MaybeId.the-variants.{Absent, Present}
-use Rattle.tree.specs.Tests.{pick, same, Maybe, nothing, just}
-use Rattle.tree.specs.States.{isId, sameId}
-use Rattle.tree.specs.Trees.{limitOf, waitingOf, over, withInteraction, withWaiting}
+use Rattle.field.specs.declared.MaybeId.the-variants.{Absent}
+use Rattle.tree.specs.Tests.{pick, Maybe, nothing, just}
+use Rattle.tree.specs.States.{isId}
+use Rattle.tree.specs.Trees.{limitOf, waitingOf, withInteraction, withWaiting}
 use Rattle.tree.specs.Calls.{nobody}
 use Rattle.tree.specs.declared.Ui.{Ui}
 use Rattle.tree.specs.declared.Interaction.{Interaction}
 use Rattle.tree.proofs.TestLaws.{bool-cases, eq-cases}
-use Rattle.tree.proofs.Parts.{Naming, Queue}
+use Rattle.tree.proofs.Parts.{Queue}
 use Rattle.desk.specs.Events.{pointedAt, pressedOn, activated, activate, releasedOn, heard, hitOf}
 use Rattle.desk.specs.History.{History, Input, withInput, idNamed, hovered, sameName, hears}
 use Rattle.desk.specs.declared.UiEvent.the-variants.{PointerMoved, PointerPressed, PointerReleased}
 use Rattle.desk.proofs.Invariant.{Inv, NameIn, links-of-interaction, dress-of-interaction, pool-of-interaction, queue-of-interaction, links-of-waiting, dress-of-waiting, pool-of-waiting}
-use Rattle.desk.proofs.NameLaws.{equal-ids-are-the-same, id-cases, HitNamed}
+use Rattle.desk.proofs.NameLaws.{equal-ids-are-the-same, id-cases}
 use Rattle.desk.proofs.RefreshSteps.{hits-agree}
 
 -- another interaction on the tree, another input on the history

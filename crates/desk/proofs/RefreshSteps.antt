@@ -1,22 +1,18 @@
 -- A refresh of the tree is the history's: the node under the pointer is the same, so every node's bits are. Assumes nothing.
-use mathlib.Core.Path.{_≡_, refl, sym, ap, subst, _∙_}
-use mathlib.Core.Bool.{Bool, true, false, _||_}
-use mathlib.Core.List.{List, [], _∷_}
-use Prim.Native.Nat.{ℕ, suc, _+_, _≤_, _<_}
-use native.Mathlib.Omega.{arith}
+use mathlib.Core.Path.{_≡_, refl, sym, subst, _∙_}
+use mathlib.Core.Bool.{_||_}
+use Prim.Native.Nat.{ℕ, suc, _<_}
 use lib.ListN.{length, getD}
-use Rattle.field.specs.declared.NodeId.{NodeId}
 use Rattle.field.specs.declared.MaybeId.{MaybeId}
-use Rattle.tree.specs.Tests.{Maybe, nothing, just}
+use Rattle.tree.specs.Tests.{Maybe, nothing}
 use Rattle.tree.specs.States.{bitsAt, refreshed}
 use Rattle.tree.specs.Forest.{Forest, mapF, anyF}
 use Rattle.tree.specs.Nodes.{Info, wears, swaps, bitsFor, hitF}
 use Rattle.tree.specs.Hit.{hitTest}
 use Rattle.tree.specs.Fields.{fieldOf}
-use Rattle.tree.specs.Trees.{limitOf, poolOf, withLooks, withStated}
+use Rattle.tree.specs.Trees.{poolOf, withLooks, withStated}
 use Rattle.tree.specs.Calls.{nobody}
 use Rattle.tree.specs.declared.Ui.{Ui}
-use Rattle.tree.specs.declared.StatePatch.{StatePatch}
 use Rattle.tree.specs.declared.Pointer.{Pointer}
 use Rattle.tree.proofs.Payloads.{AllF, all-map, all-mapF, shape-map}
 use Rattle.tree.proofs.HitLaws.{Names, the-hit-test-names-the-forests-node}

@@ -8,7 +8,7 @@ use mathlib.Core.Path.{_≡_}
 use mathlib.Core.Bool.{Bool, true, false}
 use mathlib.Core.List.{List, [], _∷_}
 use lib.ListN.{length}
-use Rattle.text.specs.Refusal.{Answer, accepted}
+use Rattle.text.specs.Refusal.{accepted}
 use Rattle.field.specs.declared.NodeId.{NodeId}
 use Rattle.field.specs.declared.MaybeId.{MaybeId}
 use Rattle.field.specs.declared.MaybeId.the-variants.{Absent, Present}

@@ -1,10 +1,8 @@
 -- Document 01, **Input** and **Metres**: each event, the oldest output, the fingerprint, and metres by node.
 use Prim.Native.Nat.{ℕ, _+_}
-use mathlib.Core.Bool.{Bool, true, false, _&&_, _||_, not}
+use mathlib.Core.Bool.{Bool, _&&_, not}
 use mathlib.Core.List.{List, [], _∷_, _++_}
 use lib.Dec.{ltb}
-use lib.IntN.{ℤ}
-use lib.ListN.{length}
 use Rattle.arithmetic.specs.Scalar.{incremented, unsignedOf}
 use Rattle.arithmetic.specs.Fold.{lowBytes, emptyHash, absorbed}
 use Rattle.arithmetic.specs.declared.fold.StateHash.{StateHash}

@@ -1,13 +1,13 @@
 -- Document 01, "The history of demand 3". It is fed the new tree's limit and each call with its arguments, and of the answers only the id
 -- that an accepted insert gives. Press, focus and the field of a key are names: a name is made at each accepted insert and used once.
-use Prim.Native.Nat.{ℕ, zero, suc, _+_, _-_}
+use Prim.Native.Nat.{ℕ, _+_, _-_}
 use mathlib.Core.Bool.{Bool, true, false, _&&_, _||_, not}
-use mathlib.Core.List.{List, [], _∷_, _++_, map}
+use mathlib.Core.List.{List, [], _∷_, _++_}
 use lib.Dec.{ltb}
-use lib.IntN.{ℤ, pos}
+use lib.IntN.{pos}
 use lib.ListN.{length, getD, take, replicate}
 use Rattle.text.specs.Refusal.{Answer, accepted, refused, numberOf}
-use Rattle.text.specs.declared.refusal.Refusal.the-variants.{Large, Missing, Full, Root, Foreign, Long, Fieldless}
+use Rattle.text.specs.declared.refusal.Refusal.the-variants.{Missing, Full, Root, Foreign, Long, Fieldless}
 use Rattle.arithmetic.specs.declared.fold.StateHash.{StateHash}
 use Rattle.field.specs.Text.{Text, text, bytesOf, caretOf, typed, keyed}
 use Rattle.field.specs.Metres.{metresOf}
@@ -18,7 +18,7 @@ use Rattle.tree.specs.Tests.{pick, same, all, Maybe, nothing, just}
 use Rattle.tree.specs.Styles.{noPatch, noRect}
 use Rattle.tree.specs.States.{inPool, sameId}
 use Rattle.tree.specs.Layout.{viewRect}
-use Rattle.tree.specs.Forest.{Forest, nil, node, app, hasBoth, hasId, kidsOf, setKidsOf, cutOf, find, ids, size, mapF, anyF}
+use Rattle.tree.specs.Forest.{Forest, nil, node, app, hasBoth, hasId, kidsOf, setKidsOf, cutOf, find, size, mapF, anyF}
 use Rattle.tree.specs.Nodes.{Info, newInfo, withField, changeOf, changeNamed, wears, swaps, bitsFor, restyled, withTable, bare, placeF, hitF, hasField, bit}
 use Rattle.tree.specs.Calls.{Shown, noText, nobody, sameView}
 use Rattle.tree.specs.declared.Style.{Style}

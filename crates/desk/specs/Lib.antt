@@ -1,3 +1,4 @@
 pub mod Events
 pub mod History
 pub mod Demand3
+pub mod Keys

@@ -1,31 +1,28 @@
 -- Fields made and edited, as texts of nodes: only texts change, so looks and names are kept. Assumes nothing.
-use mathlib.Core.Path.{_≡_, refl, sym, ap, ap₂, subst, _∙_}
+use mathlib.Core.Path.{_≡_, refl, sym, ap, subst, _∙_}
 use mathlib.Core.Bool.{Bool, true, false}
 use mathlib.Core.List.{List, [], _∷_}
-use Prim.Native.Nat.{ℕ, suc, _+_, _≤_, _<_}
+use Prim.Native.Nat.{ℕ, _<_}
 use native.Mathlib.Omega.{arith}
 use lib.ListN.{length, getD}
 use Rattle.field.specs.Text.{Text, text}
 use Rattle.field.specs.Fields.{emptyField, fieldOk, textOf}
 use Rattle.field.specs.declared.NodeId.{NodeId}
-use Rattle.field.specs.declared.MaybeId.{MaybeId}
-use Rattle.field.specs.declared.MaybeId.the-variants.{Absent, Present}
 use Rattle.field.specs.declared.Field.{Field}
 use Rattle.field.proofs.Laws.{empty-field-keeps-the-rules}
-use Rattle.tree.specs.Tests.{pick, same, occ, Maybe, nothing, just}
-use Rattle.tree.specs.Slots.{Slots, at, isLive}
+use Rattle.tree.specs.Tests.{pick, occ, Maybe, nothing, just}
+use Rattle.tree.specs.Slots.{Slots, isLive}
 use Rattle.tree.specs.Styles.{layoutAt}
 use Rattle.tree.specs.States.{entryOf, sameId}
 use Rattle.tree.specs.Forest.{Forest, nil, node, hasBoth, hasId, mapF}
 use Rattle.tree.specs.Nodes.{Info, withField, changeOf}
-use Rattle.tree.specs.Fields.{owns, fieldOf, firstField, vacant, reclaimed, claimed, ownField, changeFirst}
+use Rattle.tree.specs.Fields.{owns, fieldOf, firstField, vacant, reclaimed, claimed, changeFirst}
 use Rattle.tree.specs.Trees.{limitOf, statedOf}
 use Rattle.tree.specs.Calls.{nobody}
 use Rattle.tree.specs.declared.Ui.{Ui}
 use Rattle.tree.proofs.TestLaws.{bool-cases}
-use Rattle.tree.proofs.ForestLaws.{cnt}
 use Rattle.tree.proofs.Payloads.{AllF, all-map, all-both, all-mapF, shape, shape-map, cnt-shape}
-use Rattle.tree.proofs.Ids.{live-id, live-just-where-a-node-has-it, nodes-have-their-slots-generation}
+use Rattle.tree.proofs.Ids.{live-id, live-just-where-a-node-has-it}
 use Rattle.tree.proofs.Rounds.{Worn}
 use Rattle.tree.proofs.Parts.{Below, BelowMaybe, Links, Naming, Dress, Ruled, AllFields, textIn, Texts}
 use Rattle.tree.proofs.ShapeParts.{links-of-shape, naming-by-shape, ruled-by-shape}

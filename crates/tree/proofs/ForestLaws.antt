@@ -1,12 +1,11 @@
 -- Counts over a forest, its nodes by index, and changes of the children of one. Assumes nothing.
-use mathlib.Core.Path.{_≡_, refl, sym, ap, _∙_, subst}
-use mathlib.Core.Logic.{_≢_, _⊎_, inl, inr}
-use mathlib.Core.Bool.{Bool, true, false}
-use Prim.Native.Nat.{ℕ, zero, suc, _+_, _≤_, _<_}
+use mathlib.Core.Path.{_≡_, refl, sym, ap, _∙_}
+use mathlib.Core.Logic.{_≢_}
+use Prim.Native.Nat.{ℕ, _+_, _≤_, _<_}
 use native.Mathlib.Omega.{arith}
 use Rattle.tree.specs.Tests.{pick, same, δ}
 use Rattle.tree.specs.Forest.{Forest, nil, node, app, size}
-use Rattle.tree.proofs.TestLaws.{δ-refl, δ-same, δ-other, δ-ne, δ-le, eq-cases, zero-cases}
+use Rattle.tree.proofs.TestLaws.{eq-cases, zero-cases}
 
 module _ {X : Type 0} where
   abbrev pub firstOr : ℕ → Forest X → ℕ

@@ -1,33 +1,32 @@
 -- Styles, tables, the pool, a pass and a refresh keep the part on looks. Assumes nothing.
-use mathlib.Core.Path.{_≡_, refl, sym, ap, subst, _∙_}
+use mathlib.Core.Path.{_≡_, refl, sym, _∙_}
 use mathlib.Core.Bool.{Bool, true, false, _&&_, _||_, not}
 use mathlib.Core.List.{List, [], _∷_}
-use Prim.Native.Nat.{ℕ, suc, _+_, _≤_, _<_}
+use Prim.Native.Nat.{ℕ, _≤_, _<_}
 use native.Mathlib.Omega.{arith}
 use lib.ListN.{length}
 use Rattle.field.specs.declared.NodeId.{NodeId}
 use Rattle.field.specs.declared.MaybeId.{MaybeId}
 use Rattle.tree.specs.Tests.{pick, same, occ, fromTo, all}
-use Rattle.tree.specs.Styles.{noPatch, freshState, layoutAt, stateAt}
+use Rattle.tree.specs.Styles.{noPatch, layoutAt}
 use Rattle.tree.specs.States.{Looks, looksOf, entryOf, inPool, bitsAt, refreshed, styledAt, tabledAt, bareAll}
 use Rattle.tree.specs.Layout.{passed, viewRect}
 use Rattle.tree.specs.Forest.{Forest, nil, node, hasBoth, hasId, mapF, anyF}
-use Rattle.tree.specs.Nodes.{Info, withBox, changeOf, wears, swaps, restyled, withTable, bare, placeF}
-use Rattle.tree.specs.Rules.{distinct, stateWell}
+use Rattle.tree.specs.Nodes.{Info, changeOf, wears, swaps, restyled, withTable, bare, placeF}
+use Rattle.tree.specs.Rules.{distinct}
 use Rattle.tree.specs.Trees.{limitOf, poolOf, statedOf, withLooks, withPool, withStated, withPass}
 use Rattle.tree.specs.Calls.{pooled}
 use Rattle.tree.specs.declared.Ui.{Ui}
 use Rattle.tree.specs.declared.Style.{Style}
 use Rattle.tree.specs.declared.StatePatch.{StatePatch}
 use Rattle.tree.specs.declared.Viewport.{Viewport}
-use Rattle.tree.proofs.TestLaws.{bool-cases}
 use Rattle.tree.proofs.ForestLaws.{cnt}
-use Rattle.tree.proofs.Relations.{Rel, below}
+use Rattle.tree.proofs.Relations.{below}
 use Rattle.tree.proofs.Payloads.{AllF, all-map, all-mapF, shape-map, cnt-shape}
 use Rattle.tree.proofs.Ids.{live-id}
-use Rattle.tree.proofs.Rounds.{Worn, Sized}
+use Rattle.tree.proofs.Rounds.{Worn}
 use Rattle.tree.proofs.WearLaws.{Redressed, TablesWorn, nodes-wear-what-their-tables-have, all-slots-bare-is-every-node-bare, bare-nodes-wear-what-their-tables-have}
-use Rattle.tree.proofs.PassLaws.{Boxed, PassOver, a-pass-places-every-node, placing-keeps-what-boxes-leave-alone, placing-keeps-the-shape}
+use Rattle.tree.proofs.PassLaws.{PassOver, a-pass-places-every-node, placing-keeps-what-boxes-leave-alone, placing-keeps-the-shape}
 use Rattle.tree.proofs.RefreshLaws.{Refresh, a-refresh-is-every-node-wearing-its-bits, distinct-slots-are-below}
 use Rattle.tree.proofs.DressLaws.{a-styled-slot-is-a-restyled-node, a-tabled-slot-is-a-node-that-wears-a-table, a-restyled-node-wears-what-its-table-has, a-tabled-node-wears-what-its-table-has, changing-one-node-keeps}
 use Rattle.tree.proofs.WellLaws.{StatesWell, a-refreshed-tree-is-well, bare-slots-are-well, a-styled-tree-is-well, a-tabled-tree-is-well}

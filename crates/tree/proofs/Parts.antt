@@ -1,6 +1,6 @@
 -- What holds between the tree and the nodes of the history after every call, in parts: links, names, looks, fields, queue. Assumes nothing.
 use mathlib.Core.Path.{_≡_}
-use mathlib.Core.Bool.{Bool, true, false}
+use mathlib.Core.Bool.{true}
 use mathlib.Core.List.{List, [], _∷_}
 use Prim.Native.Nat.{ℕ, suc, _+_, _≤_, _<_}
 use lib.ListN.{length, getD}

@@ -1,12 +1,12 @@
 -- What holds of every node, and changes that leave the shape alone: links and counts see nothing of what is known of a node. Assumes nothing.
-use mathlib.Core.Path.{_≡_, refl, sym, ap, ap₂, _∙_, subst}
-use mathlib.Core.Bool.{Bool, true, false, _||_}
-use mathlib.Core.List.{List, [], _∷_, _++_, map}
-use Prim.Native.Nat.{ℕ, zero, suc, _+_, _≤_, _<_}
+use mathlib.Core.Path.{_≡_, refl, sym, ap, _∙_}
+use mathlib.Core.Bool.{Bool, true, false}
+use mathlib.Core.List.{List}
+use Prim.Native.Nat.{ℕ, _+_, _<_}
 use native.Mathlib.Omega.{arith}
 use Rattle.tree.specs.Tests.{pick, same, δ}
 use Rattle.tree.specs.Forest.{Forest, nil, node, app, size, mapF, anyF}
-use Rattle.tree.specs.Slots.{NIL, Slots, at}
+use Rattle.tree.specs.Slots.{NIL, Slots}
 use Rattle.tree.proofs.TestLaws.{δ-refl, eq-cases, zero-cases, bool-cases}
 use Rattle.tree.proofs.ForestLaws.{firstOr, lastOr, cnt, top, kids, setKids, cut, wt}
 use Rattle.tree.proofs.Segments.{SegR}

@@ -1,15 +1,13 @@
 -- The relation of slots and free chain to a forest and a list of free slots: the forest says each live slot, and every index below the
 -- limit is in just one of the two. Assumes nothing.
-use mathlib.Core.Path.{_≡_, refl, sym, ap, _∙_, subst}
-use mathlib.Core.Logic.{_≢_}
-use mathlib.Core.Bool.{Bool, true, false}
-use mathlib.Core.List.{List, [], _∷_, _++_}
-use Prim.Native.Nat.{ℕ, zero, suc, _+_, _≤_, _<_}
+use mathlib.Core.Path.{_≡_}
+use mathlib.Core.List.{List, [], _∷_}
+use Prim.Native.Nat.{ℕ, _+_, _≤_, _<_}
 use native.Mathlib.Omega.{arith}
 use native.Mathlib.Decide.{decLt}
 use lib.ListN.{length}
 use Rattle.tree.specs.Tests.{δ, occ, headOr}
-use Rattle.tree.specs.Forest.{Forest, nil, node, size}
+use Rattle.tree.specs.Forest.{Forest, size}
 use Rattle.tree.specs.Slots.{NIL, Slots, at, idle}
 use Rattle.tree.proofs.TestLaws.{δ-refl}
 use Rattle.tree.proofs.ForestLaws.{cnt, top}

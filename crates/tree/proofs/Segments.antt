@@ -1,19 +1,17 @@
 -- What it is that slots hold a forest: a doubly linked segment for the topmost nodes, and one for each node's children. Assumes nothing.
-use mathlib.Core.Path.{_≡_, refl, sym, ap, _∙_, subst}
-use mathlib.Core.Logic.{_≢_, _⊎_, inl, inr}
-use mathlib.Core.Bool.{Bool, true, false}
-use mathlib.Core.List.{List, [], _∷_, _++_}
-use Prim.Native.Nat.{ℕ, zero, suc, _+_, _≤_, _<_}
+use mathlib.Core.Path.{_≡_, refl, sym, ap, _∙_}
+use mathlib.Core.Logic.{_≢_}
+use mathlib.Core.Bool.{true}
+use Prim.Native.Nat.{ℕ, _≤_, _<_}
 use native.Mathlib.Omega.{arith}
 use native.Mathlib.Decide.{decLt}
-use lib.ListN.{length, getD, set, length-set, List·getD-eq-default}
+use lib.ListN.{length, getD, length-set, List·getD-eq-default}
 use lib.Seq.{getD-set-same, getD-set-other}
-use Rattle.tree.specs.Tests.{pick, same, δ}
 use Rattle.tree.specs.Forest.{Forest, nil, node, app}
-use Rattle.tree.specs.Slots.{NIL, Slots, noSlot, at, put, used, idle, setFirst, setLast, setPrev, setNext}
+use Rattle.tree.specs.Slots.{NIL, Slots, noSlot, at, put, used, setFirst, setLast, setPrev, setNext}
 use Rattle.tree.specs.declared.Slot.{Slot}
-use Rattle.tree.proofs.TestLaws.{same-yes, same-no, δ-refl, δ-same, δ-other, δ-ne, δ-le, eq-cases, zero-cases}
-use Rattle.tree.proofs.ForestLaws.{firstOr, lastOr, cnt, top, kids, setKids, cut, firstOr-app, lastOr-app, firstOr-set, lastOr-set, kids-none, app-nil, cnt-app, top-le-cnt, ne-by}
+use Rattle.tree.proofs.TestLaws.{same-yes, same-no, δ-refl, δ-same, eq-cases, zero-cases}
+use Rattle.tree.proofs.ForestLaws.{firstOr, lastOr, cnt, top, kids, setKids, firstOr-app, firstOr-set, lastOr-set, kids-none, app-nil, top-le-cnt, ne-by}
 
 pub len-put : (a : Slots) (i : ℕ) (s : Slot) → length (put a i s) ≡ length a
 unfolding put

@@ -1,21 +1,20 @@
 -- A call that leaves slots and shape alone keeps links, names and fields: counts see nothing of what is known of a node. Assumes nothing.
-use mathlib.Core.Path.{_≡_, refl, sym, ap, subst, _∙_}
+use mathlib.Core.Path.{_≡_, sym, ap, _∙_}
 use mathlib.Core.List.{List, [], _∷_}
-use Prim.Native.Nat.{ℕ, suc, _+_, _≤_, _<_}
+use Prim.Native.Nat.{ℕ, suc, _<_}
 use native.Mathlib.Omega.{arith}
 use lib.ListN.{length, getD}
 use Rattle.field.specs.declared.NodeId.{NodeId}
 use Rattle.field.specs.declared.MaybeId.{MaybeId}
 use Rattle.field.specs.declared.MaybeId.the-variants.{Absent, Present}
 use Rattle.field.specs.declared.Field.{Field}
-use Rattle.tree.specs.Slots.{Slots, at}
+use Rattle.tree.specs.Slots.{Slots}
 use Rattle.tree.specs.Forest.{Forest, size}
 use Rattle.tree.specs.Nodes.{Info}
 use Rattle.tree.specs.Fields.{fieldOf}
 use Rattle.tree.specs.Trees.{limitOf}
 use Rattle.tree.specs.Calls.{nobody}
 use Rattle.tree.specs.declared.Ui.{Ui}
-use Rattle.tree.proofs.ForestLaws.{cnt}
 use Rattle.tree.proofs.Payloads.{AllF, shape, shape-size, cnt-shape, rel-shape}
 use Rattle.tree.proofs.Parts.{Below, BelowMaybe, Links, Naming, Ruled, AllFields, textIn, Texts}
 

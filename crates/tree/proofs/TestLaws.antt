@@ -1,8 +1,8 @@
 -- Equality of numbers as a test, and as a count of 0 or 1. Assumes nothing.
-use mathlib.Core.Path.{_≡_, refl, sym, ap, _∙_, subst}
+use mathlib.Core.Path.{_≡_, refl, sym, subst}
 use mathlib.Core.Logic.{_≢_, _⊎_, inl, inr}
 use mathlib.Core.Bool.{Bool, true, false}
-use Prim.Native.Nat.{ℕ, zero, suc, _+_, _≤_, _<_}
+use Prim.Native.Nat.{ℕ, zero, suc, _≤_, _<_}
 use lib.Dec.{T, eqb, eqb→eq, eqb-refl}
 use native.Mathlib.Omega.{arith}
 use Rattle.tree.specs.Tests.{pick, same, δ}

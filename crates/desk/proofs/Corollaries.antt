@@ -1,0 +1,336 @@
+-- What follows from demand 3, each in words that a planner can check:
+--   no-id-is-given-twice            the ids of the root and of the accepted inserts are all different;
+--   number-1-never-comes            in a run no call says that the tree is broken;
+--   a-text-is-its-keys              a live field's text is made of just the keys handled while its node had the focus, since it was made;
+--   an-untouched-field-is-empty     a field into which no such key fell reads as no text, and its metres are refused by 9, never read as 0.
+-- Assumes nothing.
+use mathlib.Core.Path.{_≡_, refl, sym, ap, subst, _∙_}
+use mathlib.Core.Bool.{Bool, true, false, _&&_, _||_, not}
+use mathlib.Core.List.{List, [], _∷_, _++_}
+use Prim.Native.Nat.{ℕ, suc, _+_, _<_, _^_}
+use native.Mathlib.Omega.{arith}
+use lib.Dec.{ltb, eqb}
+use lib.ListN.{length, getD}
+use Rattle.text.specs.Choice as choice
+use Rattle.text.specs.Steps.{front}
+use Rattle.text.specs.Refusal.{Answer, accepted, refused}
+use Rattle.text.specs.declared.refusal.Refusal.the-variants.{Empty}
+use Rattle.text.specs.Utf8.{encodedAll}
+use Rattle.field.specs.Text.{Text, text, bytesOf}
+use Rattle.field.specs.Metres.{isPoint, isDigit, behind, metresOf}
+use Rattle.field.specs.declared.NodeId.{NodeId}
+use Rattle.tree.specs.Tests.{pick, same, all, Maybe, nothing, just}
+use Rattle.tree.specs.States.{inPool, sameId}
+use Rattle.tree.specs.Forest.{Forest, nil, node, app, hasBoth, hasId, kidsOf, setKidsOf, cutOf, find, size, mapF}
+use Rattle.tree.specs.Nodes.{Info, withField, changeNamed, changeOf, wears, restyled, withTable, bare, hasField}
+use Rattle.tree.specs.Layout.{viewRect}
+use Rattle.tree.specs.Calls as tree
+use Rattle.tree.specs.Calls.{noText, nobody, sameView}
+use Rattle.tree.specs.declared.Ui.{Ui}
+use Rattle.tree.proofs.TestLaws.{bool-cases, eq-cases, same-refl}
+use Rattle.tree.proofs.Payloads.{AllF, all-map, all-both, all-mapF}
+use Rattle.tree.proofs.PassLaws.{placing-keeps-what-boxes-leave-alone}
+use Rattle.tree.proofs.Ids.{Known, find-known, find-nothing}
+use Rattle.tree.proofs.FieldLaws.{one-id-is-the-other, to-have-an-id-is-to-be-named-by-it}
+use Rattle.tree.specs.Fields.{fieldOf}
+use Rattle.tree.proofs.Parts.{textIn}
+use Rattle.desk.specs.Events as desk
+use Rattle.desk.specs.History.{History, Call, has, unless, start, judge, judgeField, accept, note, grown, keepText, keyText, mapMaybe, refresh, hears, padded, ofText, ofNode, textSaid, caretSaid, metresSaid, rectSaid, fieldCount, rootId}
+use Rattle.desk.specs.History.Call.{insert, remove, setStyle, setStateTable, setPatchPool, makeField, solve, handle, nextOutput, fieldText, fieldCursor, metres, rect, live, firstChild, nextSibling, absorb}
+use Rattle.desk.specs.Demand3.{step, run, numbers, feed, given, Machines, follow, judged, Distinct}
+use Rattle.desk.specs.Keys.{typedOn, textOfKeys, Log, logKey, logEvent, beginAt, logField, logged, logs, noKeys}
+use Rattle.desk.specs.declared.UiEvent.{UiEvent}
+use Rattle.desk.specs.declared.UiEvent.the-variants.{PointerMoved, PointerPressed, PointerReleased, TextEntered, Edit}
+use Rattle.desk.specs.declared.Key.{Key}
+use Rattle.desk.specs.declared.Key.the-variants.{Char, Op}
+use Rattle.desk.proofs.Invariant.{Inv}
+use Rattle.desk.proofs.CallSteps.{Kept, every-call}
+use Rattle.desk.proofs.Demand3.{starts, demand-3}
+
+-- ---- ids
+
+pub no-id-is-given-twice : (limit : ℕ) → limit < 2 ^ 32 → (cs : List Call) → length cs < 2 ^ 63 → Machines cs → Distinct (rootId ∷ given (tree.newTree limit .next) cs)
+no-id-is-given-twice limit l cs n m = demand-3 limit l cs n m .ids-differ
+
+-- ---- number 1
+
+abbrev NeverOne : List ℕ → Type 0
+NeverOne [] = Unit {0}
+NeverOne (n ∷ ns) = (n ≡ 1 → ⊥) × NeverOne ns
+
+unless-not : (b : Bool) (n m : ℕ) → (n ≡ 1 → ⊥) → (m ≡ 1 → ⊥) → unless b n m ≡ 1 → ⊥
+unless-not true n m p q = q
+unless-not false n m p q = p
+
+text-not : {A : Type 0} (none : A) (read : Text → Answer A) → ((t : Text) → read t .number ≡ 1 → ⊥) → (m : Maybe Text) → ofText none read m .number ≡ 1 → ⊥
+text-not none read h nothing = λ e. omega arith
+text-not none read h (just t) = h t
+
+node-not : {A : Type 0} (none : A) (read : Info → Answer A) → ((x : Info) → read x .number ≡ 1 → ⊥) → (m : Maybe Info) → ofNode none read m .number ≡ 1 → ⊥
+node-not none read h nothing = λ e. omega arith
+node-not none read h (just x) = h x
+
+picked-not : (b : Bool) (a c : Answer ℕ) → (a .number ≡ 1 → ⊥) → (c .number ≡ 1 → ⊥) → choice.pick b a c .number ≡ 1 → ⊥
+picked-not true a c p q = p
+picked-not false a c p q = q
+
+behind-not : (v : ℕ) (s : List ℕ) → behind v s .number ≡ 1 → ⊥
+unfolding behind
+behind-not v [] = λ e. omega arith
+behind-not v (p ∷ []) = λ e. omega arith
+behind-not v (p ∷ d ∷ []) = picked-not (isPoint p && isDigit d) _ _ (λ e. omega arith) (λ e. omega arith)
+behind-not v (p ∷ d ∷ e ∷ []) = picked-not (isPoint p && (isDigit d && isDigit e)) _ _ (λ e. omega arith) (λ e. omega arith)
+behind-not v (p ∷ d ∷ e ∷ x ∷ s) = λ e. omega arith
+
+metres-not : (s : List ℕ) → metresOf s .number ≡ 1 → ⊥
+unfolding metresOf
+metres-not s = picked-not (eqb (length s) 0) _ _ (λ e. omega arith) (picked-not (choice.within 1 3 (front isDigit s)) _ _ (behind-not _ _) (λ e. omega arith))
+
+field-not : (h : History) (m : Maybe Info) → judgeField h m ≡ 1 → ⊥
+field-not h nothing = λ e. omega arith
+field-not h (just x) = unless-not (hasField x || ltb (fieldCount (h .tree)) 8) 4 0 (λ e. omega arith) (λ e. omega arith)
+
+judge-not : (h : History) (c : Call) → judge h c ≡ 1 → ⊥
+unfolding judge textSaid caretSaid metresSaid rectSaid
+judge-not h (insert d) = unless-not (has h d) 3 _ (λ e. omega arith) (unless-not (ltb (size (h .tree)) (h .limit)) 4 0 (λ e. omega arith) (λ e. omega arith))
+judge-not h (remove d) = unless-not (has h d) 3 _ (λ e. omega arith) (unless-not (not (sameId d rootId)) 5 0 (λ e. omega arith) (λ e. omega arith))
+judge-not h (setStyle d s) = unless-not (has h d) 3 0 (λ e. omega arith) (λ e. omega arith)
+judge-not h (setStateTable d table) = unless-not (has h d) 3 _ (λ e. omega arith) (unless-not (all (inPool (length (h .board .pool))) table) 6 0 (λ e. omega arith) (λ e. omega arith))
+judge-not h (setPatchPool patches count) = unless-not (not (ltb 64 count)) 7 0 (λ e. omega arith) (λ e. omega arith)
+judge-not h (makeField d) = field-not h (find d (h .tree))
+judge-not h (solve v) = λ e. omega arith
+judge-not h (handle e) = λ e. omega arith
+judge-not h nextOutput = λ e. omega arith
+judge-not h (fieldText d) = node-not _ _ (λ x. text-not _ _ (λ t e. omega arith) (x .text)) (find d (h .tree))
+judge-not h (fieldCursor d) = node-not _ _ (λ x. text-not _ _ (λ t e. omega arith) (x .text)) (find d (h .tree))
+judge-not h (metres d) = node-not _ _ (λ x. text-not _ _ (λ t. metres-not (bytesOf t)) (x .text)) (find d (h .tree))
+judge-not h (rect d) = node-not _ _ (λ x e. omega arith) (find d (h .tree))
+judge-not h (live d) = λ e. omega arith
+judge-not h (firstChild d) = λ e. omega arith
+judge-not h (nextSibling d) = unless-not (has h d) 3 0 (λ e. omega arith) (λ e. omega arith)
+judge-not h (absorb s) = λ e. omega arith
+
+judged-not : (h : History) (cs : List Call) (fed : List NodeId) → NeverOne (judged h cs fed)
+judged-not h [] fed = tt
+judged-not h (c ∷ cs) [] = tt
+judged-not h (c ∷ cs) (d ∷ fed) = (judge-not h c, judged-not (note h c d) cs fed)
+
+pub number-1-never-comes : (limit : ℕ) → limit < 2 ^ 32 → (cs : List Call) → length cs < 2 ^ 63 → Machines cs → NeverOne (numbers (tree.newTree limit .next) cs)
+number-1-never-comes limit l cs n m = subst NeverOne (sym (demand-3 limit l cs n m .refused-alike)) (judged-not (start limit) cs (feed (tree.newTree limit .next) cs))
+
+-- ---- keys
+
+typed-on-one-more : (t : Text) (ks : List Key) (key : Key) → typedOn t (ks ++ key ∷ []) ≡ keyText key (typedOn t ks)
+typed-on-one-more t [] key = refl
+typed-on-one-more t (k ∷ ks) key = typed-on-one-more (keyText k t) ks key
+
+-- a node's text is that of its keys
+abbrev ByKeys : Log → ℕ → ℕ → Info → Type 0
+ByKeys log i g x = (t : Text) → x .text ≡ just t → t ≡ textOfKeys (log (x .name))
+
+no-text : {G : Type 0} (m : Maybe Text) (t : Text) → m ≡ nothing → m ≡ just t → G
+no-text m t e f = let z : _≡_ {A = ℕ} 0 1 = cc in absurd (omega arith)
+
+-- by id, as the history changes its nodes
+module _ (P : ℕ → ℕ → Info → Type 0) where
+  all-app : (f t : Forest Info) → AllF P f → AllF P t → AllF P (app f t)
+  all-app nil t a b = b
+  all-app (node i g x cs sib) t a b = (a .0, a .1, all-app sib t (a .2) b)
+
+  all-kids-of : (d : NodeId) (f : Forest Info) → AllF P f → AllF P (kidsOf d f)
+  all-kids-of d nil a = tt
+  all-kids-of d (node i g x cs sib) a =
+      all-app (pick (hasBoth d i g) cs (kidsOf d cs)) (kidsOf d sib)
+      (bool-cases (hasBoth d i g) (λ b. rw b (a .1)) (λ b. rw b (all-kids-of d cs (a .1)))) (all-kids-of d sib (a .2))
+
+  all-set-kids-of : (d : NodeId) (k f : Forest Info) → AllF P k → AllF P f → AllF P (setKidsOf d k f)
+  all-set-kids-of d k nil q a = tt
+  all-set-kids-of d k (node i g x cs sib) q a =
+      (a .0, bool-cases (hasBoth d i g) (λ b. rw b q) (λ b. rw b (all-set-kids-of d k cs q (a .1))), all-set-kids-of d k sib q (a .2))
+
+  all-cut-of : (d : NodeId) (f : Forest Info) → AllF P f → AllF P (cutOf d f)
+  all-cut-of d nil a = tt
+  all-cut-of d (node i g x cs sib) a =
+      bool-cases (hasBoth d i g) (λ b. rw b (a .2)) (λ b. rw b (a .0, all-cut-of d cs (a .1), all-cut-of d sib (a .2)))
+
+-- nodes that keep name and text
+kept-by : (log : Log) (w : ℕ → ℕ → Info → Info) → ((i g : ℕ) (x : Info) → (w i g x .name ≡ x .name) × (w i g x .text ≡ x .text)) → (t : Forest Info) → AllF (ByKeys log) t → AllF (ByKeys log) (mapF w t)
+kept-by log w e t a =
+    all-mapF (ByKeys log) w t (all-map (ByKeys log) (λ i g x. ByKeys log i g (w i g x)) t
+    (λ i g x _ p y q. p y (sym (e i g x .1) ∙ q) ∙ ap (λ (m : ℕ). textOfKeys (log m)) (sym (e i g x .0))) a)
+
+picked-both : (b : Bool) (x y : Info) → (y .name ≡ x .name) × (y .text ≡ x .text) → (pick b y x .name ≡ x .name) × (pick b y x .text ≡ x .text)
+picked-both true x y e = e
+picked-both false x y e = (refl, refl)
+
+-- a key
+key-logged : (log : Log) (focus : Maybe ℕ) (key : Key) (t : Forest Info) → AllF (ByKeys log) t
+    → AllF (ByKeys (logKey focus key log)) (changeNamed focus (λ x. withField x (mapMaybe (keyText key) (x .text))) t)
+key-logged log nothing key t a = kept-by log _ (λ i g x. (refl, refl)) t a
+key-logged log (just m) key t a =
+    all-mapF (ByKeys (logKey (just m) key log)) (λ i g x. pick (same m (x .name)) (withField x (mapMaybe (keyText key) (x .text))) x) t
+    (all-map (ByKeys log) (λ i g x. ByKeys (logKey (just m) key log) i g (pick (same m (x .name)) (withField x (mapMaybe (keyText key) (x .text))) x)) t
+    (λ i g x _ p. bool-cases (same m (x .name))
+    (λ b. rw b (λ y q. rw b (typed x (x .text) refl p y q)))
+    (λ b. rw b (λ y q. rw b (p y q)))) a)
+  where
+    typed : (x : Info) (o : Maybe Text) → x .text ≡ o → ByKeys log 0 0 x → (y : Text) → mapMaybe (keyText key) (x .text) ≡ just y → y ≡ textOfKeys (log (x .name) ++ key ∷ [])
+    typed x nothing e p y q = no-text (mapMaybe (keyText key) (x .text)) y (ap (mapMaybe (keyText key)) e) q
+    typed x (just t₀) e p y q =
+        let r : just (keyText key t₀) ≡ just y = sym (ap (mapMaybe (keyText key)) e) ∙ q in
+        let s : keyText key t₀ ≡ y = cc in
+        sym s ∙ ap (keyText key) (p t₀ e) ∙ sym (typed-on-one-more (text [] []) (log (x .name)) key)
+
+event-logged : (h : History) (e : UiEvent) (log : Log) → AllF (ByKeys log) (h .tree) → AllF (ByKeys (logEvent (h .input .focus) e log)) (hears h e .tree)
+event-logged h (PointerMoved x y) log a = a
+event-logged h PointerPressed log a = a
+event-logged h PointerReleased log a = a
+event-logged h (TextEntered ch) log a = key-logged log (h .input .focus) (Char ch) (h .tree) a
+event-logged h (Edit op) log a = key-logged log (h .input .focus) (Op op) (h .tree) a
+
+refresh-logged : (h : History) (log : Log) → AllF (ByKeys log) (h .tree) → AllF (ByKeys log) (refresh h .tree)
+unfolding refresh wears
+refresh-logged h log a = kept-by log _ (λ i g x. (refl, refl)) (h .tree) a
+
+-- a field made
+module _ (k : ℕ) (u : Ui) (h : History) (v : Inv k u h) (log : Log) (a : AllF (ByKeys log) (h .tree)) (d : NodeId) where
+  abbrev Own : ℕ → ℕ → Info → Type 0
+  Own i g x = ((x .name < length (h .named)) × (getD (h .named) (x .name) nobody ≡ record { index = i; generation = g }))
+      × (x .text ≡ textIn (fieldOf (record { index = i; generation = g }) (u .fields)))
+
+  -- of two nodes, those with the id have one name and one text, and no other has that name
+  made-logged : (x₀ : Info) → find d (h .tree) ≡ just x₀ → Own (d .index) (d .generation) x₀
+      → AllF (ByKeys (beginAt (x₀ .text) (x₀ .name) log)) (changeOf d (λ x. withField x (keepText (x .text))) (h .tree))
+  made-logged x₀ f own₀ =
+      all-mapF (ByKeys (beginAt (x₀ .text) (x₀ .name) log)) (λ i g x. pick (hasBoth d i g) (withField x (keepText (x .text))) x) (h .tree)
+      (all-map (λ i g x. ByKeys log i g x × Own i g x) (λ i g x. ByKeys (beginAt (x₀ .text) (x₀ .name) log) i g (pick (hasBoth d i g) (withField x (keepText (x .text))) x)) (h .tree)
+      (λ i g x _ q. bool-cases (hasBoth d i g)
+      (λ b. rw b (the-node i g x (q .0) (q .1) (one-id-is-the-other d (record { index = i; generation = g }) (sym (to-have-an-id-is-to-be-named-by-it d i g) ∙ b)) (x₀ .text) refl))
+      (λ b. rw b (another i g x (q .0) (q .1) b (x₀ .text))))
+      (all-both (ByKeys log) Own (h .tree) a
+      (all-both (λ i g x. (x .name < length (h .named)) × (getD (h .named) (x .name) nobody ≡ record { index = i; generation = g })) (λ i g x. x .text ≡ textIn (fieldOf (record { index = i; generation = g }) (u .fields))) (h .tree) (v .naming .own) (v .texts .texts))))
+    where
+      the-node : (i g : ℕ) (x : Info) → ByKeys log i g x → Own i g x → d ≡ record { index = i; generation = g } → (o : Maybe Text) → x₀ .text ≡ o
+          → (t : Text) → keepText (x .text) ≡ just t → t ≡ textOfKeys (beginAt o (x₀ .name) log (x .name))
+      the-node i g x p own e nothing z t q =
+          let n : x .name ≡ x₀ .name = v .naming .apart (x .name) (x₀ .name) (own .0 .0) (own₀ .0 .0) (own .0 .1 ∙ sym e ∙ sym (own₀ .0 .1)) in
+          let y : x .text ≡ nothing = own .1 ∙ ap (λ (c : NodeId). textIn (fieldOf c (u .fields))) (sym e) ∙ sym (own₀ .1) ∙ z in
+          let r : just (text [] []) ≡ just t = sym (ap keepText y) ∙ q in
+          let s : text [] [] ≡ t = cc in
+          rw (n, same-refl (x₀ .name)) (sym s)
+      the-node i g x p own e (just t₀) z t q =
+          let y : x .text ≡ just t₀ = own .1 ∙ ap (λ (c : NodeId). textIn (fieldOf c (u .fields))) (sym e) ∙ sym (own₀ .1) ∙ z in
+          let r : just t₀ ≡ just t = sym (ap keepText y) ∙ q in
+          p t (y ∙ r)
+
+      another : (i g : ℕ) (x : Info) → ByKeys log i g x → Own i g x → hasBoth d i g ≡ false → (o : Maybe Text)
+          → (t : Text) → x .text ≡ just t → t ≡ textOfKeys (beginAt o (x₀ .name) log (x .name))
+      another i g x p own b nothing t q =
+          eq-cases (x .name) (x₀ .name)
+          (λ e _ _.
+          let c : record { index = i; generation = g } ≡ d = sym (own .0 .1) ∙ ap (λ (m : ℕ). getD (h .named) m nobody) e ∙ own₀ .0 .1 in
+          let y : hasBoth d i g ≡ true = ap (λ (c : NodeId). hasBoth d (c .index) (c .generation)) c ∙ rw (same-refl (d .index), same-refl (d .generation)) in
+          let w : false ≡ true = sym b ∙ y in
+          let z : _≡_ {A = ℕ} 0 1 = cc in absurd (omega arith))
+          (λ e s _. rw s (p t q))
+      another i g x p own b (just t₀) t q = p t q
+
+-- ---- a call and its keys
+
+judge-of-nothing : (h : History) (m : Maybe Info) → m ≡ nothing → judgeField h m ≡ 0 → ⊥
+judge-of-nothing h nothing e = λ q. omega arith
+judge-of-nothing h (just x) e = λ q. let z : _≡_ {A = ℕ} 0 1 = cc in omega arith
+
+module _ (k : ℕ) (u : Ui) (h : History) (v : Inv k u h) (log : Log) (a : AllF (ByKeys log) (h .tree)) (new : NodeId) where
+  call-logged : (c : Call) → judge h c ≡ 0 → AllF (ByKeys (logged h c log)) (accept h c new .tree)
+  unfolding judge accept logged grown wears restyled bare
+  call-logged (insert d) j =
+      all-set-kids-of (ByKeys log) d _ (h .tree)
+      (all-app (ByKeys log) (kidsOf d (h .tree)) _ (all-kids-of (ByKeys log) d (h .tree) a) ((λ t q. no-text nothing t refl q), tt, tt)) a
+  call-logged (remove d) j = all-cut-of (ByKeys log) d (h .tree) a
+  call-logged (setStyle d s) j = kept-by log _ (λ i g x. picked-both (hasBoth d i g) x (restyled s x) (refl, refl)) (h .tree) a
+  call-logged (setStateTable d table) j =
+      kept-by log _ (λ i g x. picked-both (hasBoth d i g) x (wears (h .board .pool) (x .bits) (withTable table x)) (refl, refl)) (h .tree) a
+  call-logged (setPatchPool patches count) j = kept-by log (λ i g x. bare x) (λ i g x. (refl, refl)) (h .tree) a
+  call-logged (makeField d) j =
+      bool-cases (hasId d (h .tree))
+      (λ b. made (find-known (Own k u h v log a d) d (h .tree) (all-both (λ i g x. (x .name < length (h .named)) × (getD (h .named) (x .name) nobody ≡ record { index = i; generation = g })) (λ i g x. x .text ≡ textIn (fieldOf (record { index = i; generation = g }) (u .fields))) (h .tree) (v .naming .own) (v .texts .texts)) b))
+      (λ b. absurd (judge-of-nothing h (find d (h .tree)) (find-nothing d (h .tree) b) j))
+    where
+      made : Known (Own k u h v log a d) d (h .tree) → AllF (ByKeys (logField (find d (h .tree)) log)) (changeOf d (λ x. withField x (keepText (x .text))) (h .tree))
+      made K = subst (λ (m : Maybe Info). AllF (ByKeys (logField m log)) (changeOf d (λ x. withField x (keepText (x .text))) (h .tree))) (sym (K .found)) (made-logged k u h v log a d (K .load) (K .found) (K .holds))
+  call-logged (solve w) j =
+      bool-cases (not (h .board .dirty) && sameView (h .board .viewport) w)
+      (λ b. rw b a)
+      (λ b. rw b (placing-keeps-what-boxes-leave-alone (ByKeys log) (λ i g x r q. q) (h .tree) (viewRect w ∷ []) a))
+  call-logged (handle e) j = refresh-logged (hears h e) (logEvent (h .input .focus) e log) (event-logged h e log a)
+  call-logged nextOutput j = a
+  call-logged (fieldText d) j = a
+  call-logged (fieldCursor d) j = a
+  call-logged (metres d) j = a
+  call-logged (rect d) j = a
+  call-logged (live d) j = a
+  call-logged (firstChild d) j = a
+  call-logged (nextSibling d) j = a
+  call-logged (absorb s) j = a
+
+  note-logged : (c : Call) → AllF (ByKeys (pick (same (judge h c) 0) (logged h c log) log)) (note h c new .tree)
+  unfolding note
+  note-logged c = eq-cases (judge h c) 0 (λ e s _. rw s (call-logged c e)) (λ e s _. rw s a)
+
+runs-logged : (k : ℕ) (u : Ui) (h : History) (cs : List Call) → Inv k u h → k + length cs < 2 ^ 63 → Machines cs → (log : Log) → AllF (ByKeys log) (h .tree)
+    → AllF (ByKeys (logs h cs (feed u cs) log)) (follow h cs (feed u cs) .tree)
+runs-logged k u h [] v small m log a = a
+runs-logged k u h (c ∷ cs) v small m log a =
+    let s = step u c in
+    let q : Kept k u h c = every-call k u h v (omega arith) c (m .0) in
+    runs-logged (suc k) (s .next) (note h c (s .told)) cs (q .goes-on) (omega arith) (m .1)
+    (pick (same (judge h c) 0) (logged h c log) log) (note-logged k u h v log a (s .told) c)
+
+-- ---- what a field says
+
+found-holds : (P : ℕ → ℕ → Info → Type 0) (d : NodeId) (f : Forest Info) → AllF P f → (x : Info) → find d f ≡ just x → P (d .index) (d .generation) x
+found-holds P d f a x e =
+    bool-cases (hasId d f)
+    (λ b. let K = find-known P d f a b in
+    let q : just (K .load) ≡ just x = sym (K .found) ∙ e in
+    let r : K .load ≡ x = cc in
+    subst (λ (y : Info). P (d .index) (d .generation) y) r (K .holds))
+    (λ b. let q : nothing ≡ just x = sym (find-nothing d f b) ∙ e in
+    let z : _≡_ {A = ℕ} 0 1 = cc in absurd (omega arith))
+
+module _ (limit : ℕ) (l : limit < 2 ^ 32) (cs : List Call) (n : length cs < 2 ^ 63) (m : Machines cs) where
+  abbrev the-tree : Ui
+  the-tree = run (tree.newTree limit .next) cs
+
+  abbrev the-history : History
+  the-history = follow (start limit) cs (feed (tree.newTree limit .next) cs)
+
+  abbrev the-keys : Log
+  the-keys = logs (start limit) cs (feed (tree.newTree limit .next) cs) noKeys
+
+  all-logged : AllF (ByKeys the-keys) (the-history .tree)
+  unfolding start
+  all-logged = runs-logged 0 (tree.newTree limit .next) (start limit) cs (starts limit) (omega arith) m noKeys ((λ t q. no-text nothing t refl q), tt, tt)
+
+  text-of-keys : (d : NodeId) (x : Info) → find d (the-history .tree) ≡ just x → (o : Maybe Text) → x .text ≡ o → hasField x ≡ true → x .text ≡ just (textOfKeys (the-keys (x .name)))
+  text-of-keys d x f nothing e b = let z : _≡_ {A = ℕ} 0 1 = cc in absurd (omega arith)
+  text-of-keys d x f (just t) e b = e ∙ ap (λ (y : Text). just y) (found-holds (ByKeys the-keys) d (the-history .tree) all-logged x f t e)
+
+  pub a-text-is-its-keys : (d : NodeId) (x : Info) → find d (the-history .tree) ≡ just x → hasField x ≡ true
+      → tree.fieldText the-tree d .answer ≡ accepted (padded (textOfKeys (the-keys (x .name))))
+  unfolding textSaid
+  a-text-is-its-keys d x f b =
+      demand-3 limit l cs n m .agree .text-is d ∙ rw (f, text-of-keys d x f (x .text) refl b)
+
+  pub metres-are-of-its-keys : (d : NodeId) (x : Info) → find d (the-history .tree) ≡ just x → hasField x ≡ true
+      → desk.metres the-tree d .answer ≡ metresOf (bytesOf (textOfKeys (the-keys (x .name))))
+  unfolding metresSaid
+  metres-are-of-its-keys d x f b =
+      demand-3 limit l cs n m .agree .metres-are d ∙ rw (f, text-of-keys d x f (x .text) refl b)
+
+  pub an-untouched-field-is-empty : (d : NodeId) (x : Info) → find d (the-history .tree) ≡ just x → hasField x ≡ true → the-keys (x .name) ≡ []
+      → (tree.fieldText the-tree d .answer ≡ accepted noText) × (desk.metres the-tree d .answer ≡ refused Empty 0)
+  unfolding metresOf bytesOf encodedAll
+  an-untouched-field-is-empty d x f b e =
+      (a-text-is-its-keys d x f b ∙ ap (λ (ks : List Key). accepted (padded (textOfKeys ks))) e, metres-are-of-its-keys d x f b ∙ ap (λ (ks : List Key). metresOf (bytesOf (textOfKeys ks))) e)

@@ -1,0 +1,75 @@
+-- Demand 3 in a harbour master's words: the keys that made a node's text.
+use Prim.Native.Nat.{ℕ}
+use mathlib.Core.List.{List, [], _∷_, _++_}
+use Rattle.field.specs.Text.{Text, text}
+use Rattle.field.specs.declared.NodeId.{NodeId}
+use Rattle.tree.specs.Tests.{pick, same, Maybe, nothing, just}
+use Rattle.tree.specs.Forest.{find}
+use Rattle.tree.specs.Nodes.{Info}
+use Rattle.desk.specs.History.{History, Call, judge, note, sameName, keyText}
+use Rattle.desk.specs.History.Call.{insert, remove, setStyle, setStateTable, setPatchPool, makeField, solve, handle, nextOutput, fieldText, fieldCursor, metres, rect, live, firstChild, nextSibling, absorb}
+use Rattle.desk.specs.declared.UiEvent.{UiEvent}
+use Rattle.desk.specs.declared.UiEvent.the-variants.{PointerMoved, PointerPressed, PointerReleased, TextEntered, Edit}
+use Rattle.desk.specs.declared.Key.{Key}
+use Rattle.desk.specs.declared.Key.the-variants.{Char, Op}
+
+-- The text that keys make of an empty one.
+abbrev pub typedOn : Text → List Key → Text
+typedOn t [] = t
+typedOn t (k ∷ ks) = typedOn (keyText k t) ks
+
+abbrev pub textOfKeys : List Key → Text
+textOfKeys ks = typedOn (text [] []) ks
+
+-- The keys of each node, by its name.
+abbrev pub Log : Type 0
+Log = ℕ → List Key
+
+-- A key goes to the node in focus.
+abbrev pub logKey : Maybe ℕ → Key → Log → Log
+logKey focus key log m = pick (sameName focus (just m)) (log m ++ key ∷ []) (log m)
+
+abbrev pub logEvent : Maybe ℕ → UiEvent → Log → Log
+logEvent focus (PointerMoved x y) log = log
+logEvent focus PointerPressed log = log
+logEvent focus PointerReleased log = log
+logEvent focus (TextEntered ch) log = logKey focus (Char ch) log
+logEvent focus (Edit op) log = logKey focus (Op op) log
+
+-- A node that gets a field begins anew.
+abbrev pub beginAt : Maybe Text → ℕ → Log → Log
+beginAt nothing name log m = pick (same m name) [] (log m)
+beginAt (just t) name log m = log m
+
+abbrev pub logField : Maybe Info → Log → Log
+logField nothing log = log
+logField (just x) log = beginAt (x .text) (x .name) log
+
+unfoldable pub logged : History → Call → Log → Log
+logged h (insert d) log = log
+logged h (remove d) log = log
+logged h (setStyle d s) log = log
+logged h (setStateTable d table) log = log
+logged h (setPatchPool patches count) log = log
+logged h (makeField d) log = logField (find d (h .tree)) log
+logged h (solve v) log = log
+logged h (handle e) log = logEvent (h .input .focus) e log
+logged h nextOutput log = log
+logged h (fieldText d) log = log
+logged h (fieldCursor d) log = log
+logged h (metres d) log = log
+logged h (rect d) log = log
+logged h (live d) log = log
+logged h (firstChild d) log = log
+logged h (nextSibling d) log = log
+logged h (absorb s) log = log
+
+-- The keys of each node after a list of calls: those handled while it had the focus, since its field was made.
+abbrev pub logs : History → List Call → List NodeId → Log → Log
+logs h [] fed log = log
+logs h (c ∷ cs) [] log = log
+logs h (c ∷ cs) (d ∷ fed) log = logs (note h c d) cs fed (pick (same (judge h c) 0) (logged h c log) log)
+
+-- No key yet.
+abbrev pub noKeys : Log
+noKeys m = []
