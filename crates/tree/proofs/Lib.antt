@@ -1,5 +1,6 @@
 -- modules that belong to no one function
 pub mod TestLaws
+pub mod GeometryLaws
 pub mod ForestLaws
 pub mod Segments
 pub mod Relations

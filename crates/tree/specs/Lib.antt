@@ -10,3 +10,4 @@ pub mod Fields
 pub mod Rules
 pub mod Calls
 pub mod Nodes
+pub mod Geometry
