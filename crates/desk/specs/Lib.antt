@@ -2,3 +2,4 @@ pub mod Events
 pub mod History
 pub mod Demand3
 pub mod Keys
+pub mod Answers

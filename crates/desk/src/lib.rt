@@ -1,5 +1,8 @@
 // The desk: events, and what they do to the tree.
 use field::EditOp;
+use text::refusal::Refusal;
+use tree::Ui;
+use tree::answers::Neighbour;
 
 // What the tree hears: pixels, a press and a release of the one button, a typed character, an edit.
 pub enum UiEvent {
@@ -14,4 +17,16 @@ pub enum UiEvent {
 pub enum Key {
     Char(u32),
     Op(EditOp),
+}
+
+// The oldest output is taken: its node, or none, and the tree without it.
+pub struct Taken {
+    pub answer: Neighbour,
+    pub tree: Ui,
+}
+
+// The fold that takes in the interaction.
+pub enum Fingerprint {
+    State(u64),
+    Refused(Refusal),
 }

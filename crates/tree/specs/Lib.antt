@@ -11,3 +11,4 @@ pub mod Rules
 pub mod Calls
 pub mod Nodes
 pub mod Geometry
+pub mod Answers

@@ -1,4 +1,6 @@
 // The tree: nodes in numbered slots, their links, styles, tables, boxes and fields, by value.
+pub mod answers;
+
 use field::Field;
 use field::MaybeId;
 use field::NodeId;

@@ -1,0 +1,62 @@
+-- Each kind of answer as document 01's number and values: 0 where it is accepted, and no value but 0 where it is refused.
+use Prim.Native.Nat.{ℕ}
+use mathlib.Core.Bool.{Bool, true, false}
+use mathlib.Core.List.{List}
+use Rattle.text.specs.Refusal.{Answer, accepted, refused, verdictOf}
+use Rattle.field.specs.declared.NodeId.{NodeId}
+use Rattle.field.specs.declared.MaybeId.{MaybeId}
+use Rattle.field.specs.declared.MaybeId.the-variants.{Absent, Present}
+use Rattle.tree.specs.Styles.{noRect}
+use Rattle.tree.specs.Calls.{Outcome, nobody, Shown}
+use Rattle.tree.specs.declared.Rect.{Rect}
+use Rattle.tree.specs.declared.answers.Changed.{Changed}
+use Rattle.tree.specs.declared.answers.NewId.{NewId}
+use Rattle.tree.specs.declared.answers.NewId.the-variants as new
+use Rattle.tree.specs.declared.answers.Inserted.{Inserted}
+use Rattle.tree.specs.declared.answers.TextLength.{TextLength}
+use Rattle.tree.specs.declared.answers.TextLength.the-variants as text
+use Rattle.tree.specs.declared.answers.FieldText.{FieldText}
+use Rattle.tree.specs.declared.answers.Caret.{Caret}
+use Rattle.tree.specs.declared.answers.Caret.the-variants as caret
+use Rattle.tree.specs.declared.answers.NodeRect.{NodeRect}
+use Rattle.tree.specs.declared.answers.NodeRect.the-variants as box
+use Rattle.tree.specs.declared.answers.Liveness.{Liveness}
+use Rattle.tree.specs.declared.answers.Liveness.the-variants as life
+use Rattle.tree.specs.declared.answers.Neighbour.{Neighbour}
+use Rattle.tree.specs.declared.answers.Neighbour.the-variants as near
+
+abbrev pub changedOf : Changed → Outcome ℕ
+changedOf r = record { next = r .tree; answer = record { number = verdictOf (r .verdict); value = 0 } }
+
+abbrev pub newIdOf : NewId → Answer NodeId
+newIdOf (new.Id d) = accepted d
+newIdOf (new.Refused word) = refused word nobody
+
+abbrev pub insertedOf : Inserted → Outcome NodeId
+insertedOf r = record { next = r .tree; answer = newIdOf (r .answer) }
+
+-- A refused read gives 64 bytes of 0.
+abbrev pub textOf : TextLength → List ℕ → Answer Shown
+textOf (text.Bytes n) bytes′ = accepted (record { bytes = bytes′; len = n })
+textOf (text.Refused word) bytes′ = refused word (record { bytes = bytes′; len = 0 })
+
+abbrev pub fieldTextOf : FieldText → Answer Shown
+fieldTextOf r = textOf (r .answer) (r .bytes)
+
+abbrev pub caretAnswer : Caret → Answer ℕ
+caretAnswer (caret.At n) = accepted n
+caretAnswer (caret.Refused word) = refused word 0
+
+abbrev pub rectOf : NodeRect → Answer Rect
+rectOf (box.At r) = accepted r
+rectOf (box.Refused word) = refused word noRect
+
+abbrev pub livenessOf : Liveness → Answer Bool
+livenessOf life.Dead = accepted false
+livenessOf life.Live = accepted true
+livenessOf (life.Refused word) = refused word false
+
+abbrev pub neighbourOf : Neighbour → Answer MaybeId
+neighbourOf near.Nobody = accepted Absent
+neighbourOf (near.Node d) = accepted (Present d)
+neighbourOf (near.Refused word) = refused word Absent
