@@ -18,7 +18,7 @@ use Rattle.tree.specs.declared.Align.{Align}
 use Rattle.tree.specs.declared.Align.the-variants.{Start, Center, End}
 use Rattle.tree.proofs.TestLaws.{eq-cases, same-refl}
 
-no-more : {G : Type 0} → false ≡ true → G
+pub no-more : {G : Type 0} → false ≡ true → G
 no-more e = let z : _≡_ {A = ℕ} 0 1 = cc in absurd (omega arith)
 
 both : (a b : Bool) → (a && b) ≡ true → (a ≡ true) × (b ≡ true)
@@ -30,7 +30,7 @@ both false b e = no-more e
 same-is : (m n : ℕ) → same m n ≡ true → m ≡ n
 same-is m n e = eq-cases m n (λ q _ _. q) (λ _ s _. no-more (sym s ∙ e))
 
-same-z-is : (m n : ℤ) → sameZ m n ≡ true → m ≡ n
+pub same-z-is : (m n : ℤ) → sameZ m n ≡ true → m ≡ n
 same-z-is (pos m) (pos n) e = ap pos (same-is m n e)
 same-z-is (pos m) (negsuc n) e = no-more e
 same-z-is (negsuc m) (pos n) e = no-more e
@@ -98,7 +98,7 @@ unmoved-styles-are-the-same a b e =
 
 -- ---- what is equal is the same
 
-z-refl : (m : ℤ) → sameZ m m ≡ true
+pub z-refl : (m : ℤ) → sameZ m m ≡ true
 z-refl (pos m) = same-refl m
 z-refl (negsuc m) = same-refl m
 

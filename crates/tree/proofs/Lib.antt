@@ -1,6 +1,16 @@
 -- modules that belong to no one function
 pub mod TestLaws
+pub mod ListLaws
+pub mod QueueLaws
+pub mod CheckLaws
 pub mod GeometryLaws
+pub mod Standings
+pub mod TakenLaws
+pub mod Raws
+pub mod Turns
+pub mod Pools
+pub mod Stated
+pub mod Places
 pub mod ForestLaws
 pub mod Segments
 pub mod Relations
@@ -33,3 +43,14 @@ pub mod NotBroken
 pub mod FieldParts
 pub mod StartParts
 pub mod ReadParts
+pub mod Signs
+pub mod ChainLaws
+pub mod Contents
+pub mod HitSteps
+pub mod Placing
+pub mod Sharing
+pub mod Passes
+pub mod Queues
+pub mod SlottedOrders
+pub mod Wearings
+pub mod Keeps

@@ -4,15 +4,16 @@ use mathlib.Core.Path.{_≡_, refl, sym, _∙_}
 use mathlib.Core.Logic.{_≢_}
 use mathlib.Core.Bool.{true}
 use mathlib.Core.List.{List, [], _∷_}
-use Prim.Native.Nat.{ℕ, suc, _+_, _<_, _^_}
+use Prim.Native.Nat.{ℕ, suc, _+_, _<_, _^_, _≤_}
 use native.Mathlib.Omega.{arith}
+use lib.Seq.{take-all}
 use lib.ListN.{length, getD, set, length-set}
 use Rattle.field.specs.declared.NodeId.{NodeId}
 use Rattle.field.specs.declared.MaybeId.{MaybeId}
 use Rattle.tree.specs.Tests.{occ}
 use Rattle.tree.specs.Forest.{Forest, hasId, cutOf}
 use Rattle.tree.specs.Nodes.{Info}
-use Rattle.tree.specs.Slots.{at, unlink, freeOrder}
+use Rattle.tree.specs.Slots.{at, unlink, freeOrder, freeing}
 use Rattle.tree.specs.Styles.{freshState, freshStyle, stateAt}
 use Rattle.tree.specs.Trees.{limitOf, withNodes}
 use Rattle.tree.specs.Calls.{nobody, resetStates, removeAt}
@@ -73,6 +74,16 @@ module _ {k : ℕ} {u : Ui} {t : Forest Info} (L : Links k u t) (small : k < 2 ^
   gone : Removed (limitOf u) (u .slots) (u .free) t (L .chain) (d .index)
   gone = remove-rel (limitOf u) (u .slots) (u .free) t (L .chain) (d .index) (L .rel) (live-id (L .rel) d h .0) nz
 
+  -- all of the order: it has no more slots than the tree
+  whole-order : freeing (unlink (u .slots) (d .index)) (d .index) ≡ freedBy u d
+  unfolding freeing
+  whole-order =
+      let z = gone .sizes in
+      let n = L .rel .total in
+      let m = L .rel .small in
+      let c : length (freedBy u d) ≤ 128 = omega arith in
+      take-all 128 (freedBy u d) c
+
   -- each slot freed had a node that leaves
   pub the-slots-freed-are-those-that-leave : (j : ℕ) → occ j (freedBy u d) + cnt j (cutOf d t) ≡ cnt j t
   the-slots-freed-are-those-that-leave j = rw by-index (gone .order-counts j)
@@ -81,7 +92,7 @@ module _ {k : ℕ} {u : Ui} {t : Forest Info} (L : Links k u t) (small : k < 2 ^
   unfolding removeAt withNodes
   a-removal-keeps-every-epoch j =
       let y = L .young j in
-      rw by-index (remove-keeps-epochs (L .rel) (d .index) (live-id (L .rel) d h .0) nz j (omega arith))
+      rw (by-index, whole-order) (remove-keeps-epochs (L .rel) (d .index) (live-id (L .rel) d h .0) nz j (omega arith))
 
   pub no-epoch-falls-by-a-removal : NoEpochFalls (u .slots) t (removeAt u (d .index) .slots) (cutOf d t)
   no-epoch-falls-by-a-removal j = let e = a-removal-keeps-every-epoch j in omega arith
@@ -102,7 +113,7 @@ module _ {k : ℕ} {u : Ui} {t : Forest Info} (L : Links k u t) (small : k < 2 ^
       let R = gone in
       let n = L .count in
       let z = R .sizes in
-      rw by-index record {
+      rw (by-index, whole-order) record {
         chain = pushed (freedBy u d) (L .chain);
         rel = R .rel;
         count = omega arith;
@@ -123,7 +134,7 @@ module _ {k : ℕ} {u : Ui} {t : Forest Info} (L : Links k u t) (small : k < 2 ^
       let s : List StateSlot = u .states in
       let ls = D .sized .1 in
       let sm = L .rel .small in
-      record {
+      rw whole-order record {
         sized = (D .sized .0, reset-states-are-as-many s o ∙ ls);
         worn = all-map (λ j g x. Worn (u .layout) s j x) (λ j g x. Worn (u .layout) (resetStates s o) j x) (cutOf d t)
             (λ j g x c w. let e = the-slots-freed-are-those-that-leave j in let q = once (L .rel) j in (w .0, states-not-reset-stay s o j (omega arith) ∙ w .1))

@@ -37,7 +37,7 @@ occ-within i (suc k) j h h′ =
 
 -- ---- the slots of a new tree
 
-new-length : (n i k : ℕ) → length (newSlots n i k) ≡ k
+pub new-length : (n i k : ℕ) → length (newSlots n i k) ≡ k
 unfolding newSlots
 new-length n i zero = refl
 new-length n i (suc k) = ap suc (new-length n (suc i) k)
@@ -48,7 +48,7 @@ new-at n i zero j h = absurd (omega arith)
 new-at n i (suc k) zero h = ap (newSlot n) (omega arith)
 new-at n i (suc k) (suc j) h = new-at n (suc i) k j (omega arith) ∙ ap (newSlot n) (omega arith)
 
-slot-at : (n j : ℕ) → j < 128 → at (newSlots n 0 128) j ≡ newSlot n j
+pub slot-at : (n j : ℕ) → j < 128 → at (newSlots n 0 128) j ≡ newSlot n j
 unfolding at
 slot-at n j h = new-at n 0 128 j h ∙ ap (newSlot n) (omega arith)
 

@@ -3,10 +3,18 @@ use Prim.Native.Nat.{ℕ}
 use mathlib.Core.Bool.{Bool, true, false}
 use mathlib.Core.List.{List}
 use Rattle.text.specs.Refusal.{Answer, accepted, refused, verdictOf}
+use Rattle.text.specs.declared.refusal.Refusal.the-variants.{Broken, Missing}
+use Rattle.text.specs.declared.refusal.Verdict.{Verdict}
+use Rattle.text.specs.declared.refusal.Verdict.the-variants.{Accepted, Refused}
 use Rattle.field.specs.declared.NodeId.{NodeId}
 use Rattle.field.specs.declared.MaybeId.{MaybeId}
 use Rattle.field.specs.declared.MaybeId.the-variants.{Absent, Present}
+use Rattle.tree.specs.Tests.{pick}
+use Rattle.tree.specs.Slots.{isLive}
+use Rattle.tree.specs.Rules.{broken}
+use Rattle.tree.specs.Trees.{limitOf}
 use Rattle.tree.specs.Styles.{noRect}
+use Rattle.tree.specs.declared.Ui.{Ui}
 use Rattle.tree.specs.Calls.{Outcome, nobody, Shown}
 use Rattle.tree.specs.declared.Rect.{Rect}
 use Rattle.tree.specs.declared.answers.Changed.{Changed}
@@ -24,6 +32,10 @@ use Rattle.tree.specs.declared.answers.Liveness.{Liveness}
 use Rattle.tree.specs.declared.answers.Liveness.the-variants as life
 use Rattle.tree.specs.declared.answers.Neighbour.{Neighbour}
 use Rattle.tree.specs.declared.answers.Neighbour.the-variants as near
+
+-- Whether a call on a node is refused before anything else.
+unfoldable pub standing : Ui → NodeId → Verdict
+standing u d = pick (broken u) (Refused Broken) (pick (isLive (limitOf u) (u .slots) d) Accepted (Refused Missing))
 
 abbrev pub changedOf : Changed → Outcome ℕ
 changedOf r = record { next = r .tree; answer = record { number = verdictOf (r .verdict); value = 0 } }

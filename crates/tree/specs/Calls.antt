@@ -15,7 +15,7 @@ use Rattle.field.specs.declared.MaybeId.{MaybeId}
 use Rattle.field.specs.declared.MaybeId.the-variants.{Absent, Present}
 use Rattle.field.specs.declared.Field.{Field}
 use Rattle.tree.specs.Tests.{pick, same, all, fromTo, finalOr, Maybe, nothing, just}
-use Rattle.tree.specs.Slots.{NIL, Slots, noSlot, at, put, used, idle, isLive, idAt, linkLast, unlink, freeOrder, freed}
+use Rattle.tree.specs.Slots.{NIL, Slots, noSlot, at, put, used, idle, isLive, idAt, linkLast, unlink, freeing, freed}
 use Rattle.tree.specs.Styles.{noPatch, noRect, freshStyle, freshLayout, freshState, noLayout, noState, noStatePatch, layoutAt}
 use Rattle.tree.specs.States.{Looks, looksOf, inPool, styledAt, tabledAt, bareAll, isId}
 use Rattle.tree.specs.Layout.{passed}
@@ -107,7 +107,7 @@ resetStates l (i ∷ is) = resetStates (set l i freshState) is
 unfoldable pub removeAt : Ui → ℕ → Ui
 removeAt u i =
     let s = unlink (u .slots) i in
-    let o = freeOrder 128 s i in
+    let o = freeing s i in
     withNodes u (freed s (u .free) o) (u .layout) (resetStates (u .states) o) (finalOr (u .free) o) (u .live - length o)
 
 unfoldable pub remove : Ui → NodeId → Outcome ℕ

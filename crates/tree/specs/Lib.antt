@@ -1,6 +1,7 @@
 pub mod Tests
 pub mod Trees
 pub mod Slots
+pub mod Lists
 pub mod Styles
 pub mod States
 pub mod Layout
@@ -12,3 +13,6 @@ pub mod Calls
 pub mod Nodes
 pub mod Geometry
 pub mod Answers
+pub mod Places
+pub mod Views
+pub mod Wearing

@@ -3,7 +3,7 @@ use Prim.Native.Nat.{ℕ, zero, suc, _+_, _%_, _^_}
 use mathlib.Core.Bool.{Bool, true, false, _&&_}
 use mathlib.Core.List.{List, [], _∷_, _++_}
 use lib.Dec.{ltb}
-use lib.ListN.{getD, set}
+use lib.ListN.{getD, set, take}
 use Rattle.field.specs.declared.NodeId.{NodeId}
 use Rattle.tree.specs.Tests.{pick, same}
 use Rattle.tree.specs.declared.Slot.{Slot}
@@ -101,6 +101,10 @@ joined f (c ∷ cs) = f c ++ joined f cs
 unfoldable pub freeOrder : ℕ → Slots → ℕ → List ℕ
 freeOrder zero s i = []
 freeOrder (suc d) s i = i ∷ joined (freeOrder d s) (chainBack 128 s (at s i .«last_child»))
+
+-- At most 128 of it, which is all where the links keep their rules.
+unfoldable pub freeing : Slots → ℕ → List ℕ
+freeing s i = take 128 (freeOrder 128 s i)
 
 -- Plus 1, modulo 2^64.
 unfoldable pub aged : ℕ → ℕ

@@ -1,9 +1,38 @@
 // The tree: nodes in numbered slots, their links, styles, tables, boxes and fields, by value.
 pub mod answers;
+pub mod fields;
+pub mod input;
+mod layout;
+mod links;
+mod nodes;
+mod rules;
+mod start;
+pub mod state;
+mod wearing;
 
+ghost use mathlib.Core.Path.{_≡_};
+ghost use Rattle.tree.specs.Answers.{standing, changedOf, insertedOf, rectOf, livenessOf, neighbourOf, fieldTextOf, caretAnswer};
+ghost use Rattle.tree.specs.Calls.{newTree, insert, remove, live, rect, firstChild, nextSibling, fieldText, fieldCursor, makeField, takeField, solve, sameView, setStyle, setStateTable, setPatchPool};
+ghost use Rattle.tree.specs.Tests.{nothing};
+use answers::Caret;
+use answers::Changed;
+use answers::FieldText;
+use answers::Inserted;
+use answers::Liveness;
+use answers::Neighbour;
+use answers::NewId;
+use answers::NodeRect;
+use answers::TextLength;
+use arithmetic::scalar;
 use field::Field;
 use field::MaybeId;
 use field::NodeId;
+use fields::Place;
+use text::refusal::Refusal;
+use text::refusal::Verdict;
+
+// No neighbour.
+const NIL: u32 = 4294967295;
 
 // Which way a node lays out its children.
 pub enum Direction {
@@ -134,4 +163,358 @@ pub struct Ui {
     pub live: u32,
     pub limits: UiLimits,
     pub fields: [Field; 8],
+}
+
+fn same_view(v: Viewport, w: Viewport) -> bool
+    ensures { λ r. ⌜ r ≡ sameView v w ⌝ }
+{
+    (v.width == w.width) & (v.height == w.height)
+}
+
+impl Ui {
+    // A tree with its root alone. A limit of 0 means 1; above 128 it is refused, and the tree has the limit 1.
+    pub fn new(limits: UiLimits) -> Changed
+        ensures { λ r. ⌜ changedOf r ≡ newTree (limits .nodes) ⌝ }
+    {
+        let n = limits.nodes;
+        if 128 < n {
+            return Changed {
+                verdict: Verdict::Refused(Refusal::Large),
+                tree: start::fresh(1),
+            };
+        }
+        if n == 0 {
+            return Changed {
+                verdict: Verdict::Accepted,
+                tree: start::fresh(1),
+            };
+        }
+        Changed {
+            verdict: Verdict::Accepted,
+            tree: start::fresh(n),
+        }
+    }
+
+    // Whether a call on a node is refused before anything else: the tree is broken, or the node is not live.
+    fn standing(self, d: NodeId) -> Verdict
+        ensures { λ r. ⌜ r ≡ standing self d ⌝ }
+    {
+        if rules::broken(self) {
+            return Verdict::Refused(Refusal::Broken);
+        }
+        let limits = self.limits;
+        let slots = self.slots;
+        if links::is_live(limits.nodes, slots, d) {
+            return Verdict::Accepted;
+        }
+        Verdict::Refused(Refusal::Missing)
+    }
+
+    // Whether the id names a live node.
+    pub fn is_live(self, d: NodeId) -> Liveness
+        ensures { λ r. ⌜ livenessOf r ≡ live self d .answer ⌝ }
+    {
+        if rules::broken(self) {
+            return Liveness::Refused(Refusal::Broken);
+        }
+        let limits = self.limits;
+        let slots = self.slots;
+        if links::is_live(limits.nodes, slots, d) {
+            return Liveness::Live;
+        }
+        Liveness::Dead
+    }
+
+    // The node's box, of the last pass.
+    pub fn rect(self, d: NodeId) -> NodeRect
+        ensures { λ r. ⌜ rectOf r ≡ rect self d .answer ⌝ }
+    {
+        match self.standing(d) {
+            Verdict::Refused(word) => NodeRect::Refused(word),
+            Verdict::Accepted => {
+                let layout = self.layout;
+                NodeRect::At(nodes::rect_at(layout, d.index))
+            }
+        }
+    }
+
+    // The node's next sibling.
+    pub fn next_sibling(self, d: NodeId) -> Neighbour
+        ensures { λ r. ⌜ neighbourOf r ≡ nextSibling self d .answer ⌝ }
+    {
+        match self.standing(d) {
+            Verdict::Refused(word) => Neighbour::Refused(word),
+            Verdict::Accepted => {
+                let slots = self.slots;
+                let s = links::slot_at(slots, d.index);
+                nodes::neighbour(slots, s.next_sibling)
+            }
+        }
+    }
+
+    // The node's first child; a dead node has none.
+    pub fn first_child(self, d: NodeId) -> Neighbour
+        ensures { λ r. ⌜ neighbourOf r ≡ firstChild self d .answer ⌝ }
+    {
+        if rules::broken(self) {
+            return Neighbour::Refused(Refusal::Broken);
+        }
+        let limits = self.limits;
+        let slots = self.slots;
+        if links::is_live(limits.nodes, slots, d) {
+            let s = links::slot_at(slots, d.index);
+            return nodes::neighbour(slots, s.first_child);
+        }
+        Neighbour::Nobody
+    }
+
+    // A new last child of a node.
+    pub fn insert(self, parent: NodeId) -> Inserted
+        ensures { λ r. ⌜ insertedOf r ≡ insert self parent ⌝ }
+    {
+        match self.standing(parent) {
+            Verdict::Refused(word) => Inserted {
+                answer: NewId::Refused(word),
+                tree: self,
+            },
+            Verdict::Accepted => {
+                let index = self.free;
+                if index == NIL {
+                    return Inserted {
+                        answer: NewId::Refused(Refusal::Full),
+                        tree: self,
+                    };
+                }
+                let slots = self.slots;
+                let id = links::id_at(slots, index);
+                let next = nodes::insert_at(self, parent.index);
+                Inserted {
+                    answer: NewId::Id(id),
+                    tree: next,
+                }
+            }
+        }
+    }
+
+    // The node and all below it leave the tree.
+    pub fn remove(self, d: NodeId) -> Changed
+        ensures { λ r. ⌜ changedOf r ≡ remove self d ⌝ }
+    {
+        match self.standing(d) {
+            Verdict::Refused(word) => Changed {
+                verdict: Verdict::Refused(word),
+                tree: self,
+            },
+            Verdict::Accepted => {
+                if d.index == 0 {
+                    return Changed {
+                        verdict: Verdict::Refused(Refusal::Root),
+                        tree: self,
+                    };
+                }
+                let next = nodes::remove_at(self, d.index);
+                Changed {
+                    verdict: Verdict::Accepted,
+                    tree: next,
+                }
+            }
+        }
+    }
+
+    // The text of the node's field, 0 past its length.
+    pub fn field_text(self, d: NodeId) -> FieldText
+        ensures { λ r. ⌜ fieldTextOf r ≡ fieldText self d .answer ⌝ }
+    {
+        match self.standing(d) {
+            Verdict::Refused(word) => {
+                let none = [0u8; 64];
+                FieldText {
+                    answer: TextLength::Refused(word),
+                    bytes: none,
+                }
+            }
+            Verdict::Accepted => {
+                let own = self.fields;
+                match fields::field_place(own, d) {
+                    Place::Nowhere => {
+                        let none = [0u8; 64];
+                        FieldText {
+                            answer: TextLength::Refused(Refusal::Fieldless),
+                            bytes: none,
+                        }
+                    }
+                    Place::At(i) => {
+                        let f = fields::field_at(own, i);
+                        let bytes = f.shown();
+                        FieldText {
+                            answer: TextLength::Bytes(f.len),
+                            bytes: bytes,
+                        }
+                    }
+                }
+            }
+        }
+    }
+
+    // Where the caret of the node's field stands.
+    pub fn field_cursor(self, d: NodeId) -> Caret
+        ensures { λ r. ⌜ caretAnswer r ≡ fieldCursor self d .answer ⌝ }
+    {
+        match self.standing(d) {
+            Verdict::Refused(word) => Caret::Refused(word),
+            Verdict::Accepted => {
+                let own = self.fields;
+                match fields::field_place(own, d) {
+                    Place::Nowhere => Caret::Refused(Refusal::Fieldless),
+                    Place::At(i) => {
+                        let f = fields::field_at(own, i);
+                        Caret::At(f.cursor)
+                    }
+                }
+            }
+        }
+    }
+
+    // A field for the node; one that it has stays.
+    pub fn make_field(self, d: NodeId) -> Changed
+        ensures { λ r. ⌜ changedOf r ≡ makeField self d ⌝ }
+    {
+        match self.standing(d) {
+            Verdict::Refused(word) => Changed {
+                verdict: Verdict::Refused(word),
+                tree: self,
+            },
+            Verdict::Accepted => {
+                let own = self.fields;
+                match fields::field_place(own, d) {
+                    Place::At(i) => Changed {
+                        verdict: Verdict::Accepted,
+                        tree: self,
+                    },
+                    Place::Nowhere => self.take_field(d),
+                }
+            }
+        }
+    }
+
+    // The first free field for a node that has none, after those of dead owners are cleared.
+    fn take_field(self, d: NodeId) -> Changed
+        ensures { λ r. ⌜ changedOf r ≡ takeField self d nothing ⌝ }
+    {
+        let limits = self.limits;
+        let slots = self.slots;
+        let held = self.fields;
+        let cleared = fields::reclaim(limits.nodes, slots, held);
+        if fields::all_taken(cleared) {
+            return Changed {
+                verdict: Verdict::Refused(Refusal::Full),
+                tree: self,
+            };
+        }
+        let taken = fields::claim(d, cleared);
+        let mut out = self;
+        out.fields = taken;
+        Changed {
+            verdict: Verdict::Accepted,
+            tree: out,
+        }
+    }
+
+    // A layout pass, where one is due or the viewport is another.
+    pub fn solve(self, view: Viewport) -> Changed
+        ensures { λ r. ⌜ changedOf r ≡ solve self view ⌝ }
+    {
+        if rules::broken(self) {
+            return Changed {
+                verdict: Verdict::Refused(Refusal::Broken),
+                tree: self,
+            };
+        }
+        let before = self.solved_for;
+        if !self.dirty & same_view(before, view) {
+            return Changed {
+                verdict: Verdict::Accepted,
+                tree: self,
+            };
+        }
+        let slots = self.slots;
+        let held = self.layout;
+        let placed = layout::solve(slots, held, view);
+        let mut out = self;
+        out.layout = placed;
+        out.layout_passes = scalar::increment(self.layout_passes);
+        out.solved_for = view;
+        out.dirty = false;
+        Changed {
+            verdict: Verdict::Accepted,
+            tree: out,
+        }
+    }
+
+    // The node's base style.
+    pub fn set_style(self, d: NodeId, style: Style) -> Changed
+        ensures { λ r. ⌜ changedOf r ≡ setStyle self d style ⌝ }
+    {
+        match self.standing(d) {
+            Verdict::Refused(word) => Changed {
+                verdict: Verdict::Refused(word),
+                tree: self,
+            },
+            Verdict::Accepted => {
+                let next = wearing::style_at(self, d.index, style);
+                Changed {
+                    verdict: Verdict::Accepted,
+                    tree: next,
+                }
+            }
+        }
+    }
+
+    // The node's sixteen patch numbers.
+    pub fn set_state_table(self, d: NodeId, table: [u16; 16]) -> Changed
+        ensures { λ r. ⌜ changedOf r ≡ setStateTable self d table ⌝ }
+    {
+        match self.standing(d) {
+            Verdict::Refused(word) => Changed {
+                verdict: Verdict::Refused(word),
+                tree: self,
+            },
+            Verdict::Accepted => {
+                if state::table_in_pool(self.patch_count, table) {
+                    let next = wearing::table_at(self, d.index, table);
+                    return Changed {
+                        verdict: Verdict::Accepted,
+                        tree: next,
+                    };
+                }
+                Changed {
+                    verdict: Verdict::Refused(Refusal::Foreign),
+                    tree: self,
+                }
+            }
+        }
+    }
+
+    // The pool: the first `count` of the patches. Every table and all bits are cleared.
+    pub fn set_patch_pool(self, patches: [StatePatch; 64], count: u32) -> Changed
+        ensures { λ r. ⌜ changedOf r ≡ setPatchPool self patches count ⌝ }
+    {
+        if rules::broken(self) {
+            return Changed {
+                verdict: Verdict::Refused(Refusal::Broken),
+                tree: self,
+            };
+        }
+        if 64 < count {
+            return Changed {
+                verdict: Verdict::Refused(Refusal::Long),
+                tree: self,
+            };
+        }
+        let next = wearing::pool(self, patches, count);
+        Changed {
+            verdict: Verdict::Accepted,
+            tree: next,
+        }
+    }
 }

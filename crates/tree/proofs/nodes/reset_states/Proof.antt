@@ -1,0 +1,77 @@
+-- What is left of the list resets the rest. Assumes nothing.
+use Rattle.tree.proofs.ListLaws.{one-more}
+use Rattle.tree.specs.Lists.{listed}
+use Rattle.tree.specs.Calls.{resetStates}
+use Rattle.tree.specs.Styles.{freshState}
+use Rattle.tree.specs.declared.StateSlot.{StateSlot}
+use lib.ListN.{length, drop, getD, set, drop-of-length-le}
+use mathlib.Core.List.{List}
+use mathlib.Core.Path.{_≡_, refl, _∙_}
+use Prim.Native.Nat.{ℕ, _-_, _+_, _<_, _≤_}
+use native.Mathlib.Omega.{arith}
+use borrow.Author.Needs.{needs}
+use Rattle.tree.proofs.nodes.reset_states.Statement.{statement}
+use Rattle.tree.proofs.nodes.reset_states.Tie as tie
+
+abbrev Inv-loop : tie.InvT-loop
+Inv-loop o n out₀ k₀ out k = (k ≤ n) × (resetStates out (drop k (listed o)) ≡ resetStates out₀ (listed o))
+
+abbrev μ-loop : tie.MeasureT-loop
+μ-loop o n out₀ k₀ out k = n - k
+
+reset-more : (s : List StateSlot) (l : List ℕ) (k : ℕ) {i : ℕ} {x : StateSlot} {t : List StateSlot} → k < length l → i ≡ getD l k 0 → x ≡ freshState → t ≡ set s i x → resetStates t (drop (k + 1) l) ≡ resetStates s (drop k l)
+unfolding resetStates
+reset-more s l k q e f t = rw (t, f, e) (one-more l k (resetStates s) q)
+
+reset-done : (s : List StateSlot) (l : List ℕ) (k : ℕ) → length l ≤ k → s ≡ resetStates s (drop k l)
+unfolding resetStates
+reset-done s l k q = rw (drop-of-length-le l q)
+
+listed-count-requires : tie.Need-listed-count-requires Inv-loop μ-loop
+listed-count-requires c κs = search needs
+
+loop-holds : tie.Need-loop-holds Inv-loop μ-loop
+loop-holds c = (search needs, refl)
+
+listed-at-requires : tie.Need-listed-at-requires Inv-loop μ-loop
+listed-at-requires c κs = search needs
+
+fresh-state-requires : tie.Need-fresh-state-requires Inv-loop μ-loop
+fresh-state-requires c κs = search needs
+
+with-state-requires : tie.Need-with-state-requires Inv-loop μ-loop
+with-state-requires c κs = search needs
+
+add-k : tie.Need-add-k Inv-loop μ-loop
+add-k c = search needs
+
+loop-less : tie.Need-loop-less Inv-loop μ-loop
+loop-less c = search needs
+
+loop-again : tie.Need-loop-again Inv-loop μ-loop
+loop-again c =
+    let l = c .before .before .before .before .loop in
+    let o = c .before .before .before .before .before .before .args .o in
+    let t : l .k < length (listed o) = omega arith in
+    (search needs, reset-more _ (listed o) (l .k) t (c .before .before .listed-at .ensures) (c .before .fresh-state .ensures) (c .with-state .ensures) ∙ l .inv .1)
+
+returns : tie.Need-returns Inv-loop μ-loop
+returns c =
+    let o = c .before .before .before .args .o in
+    let t : length (listed o) ≤ c .before .loop .k = omega arith in reset-done _ (listed o) (c .before .loop .k) t ∙ c .before .loop .inv .1
+
+pub reset-states-spec : {M : Type 1} → statement M
+reset-states-spec =
+    tie.close
+    (tie.spec
+    Inv-loop
+    μ-loop
+    listed-count-requires
+    loop-holds
+    listed-at-requires
+    fresh-state-requires
+    with-state-requires
+    add-k
+    loop-less
+    loop-again
+    returns)

@@ -1,0 +1,73 @@
+-- Inside the slots each part by its contract; past them a slot of zeros is read. Assumes nothing.
+use mathlib.Core.Path.{_≡_, sym, _∙_}
+use lib.ListN.{length, length-map}
+use native.Mathlib.Omega.{arith}
+use borrow.Author.Tests.{eq-eqb, ne-eqb}
+use Rattle.tree.proofs.Wearings.{wear-past}
+use Rattle.tree.specs.States.{wear, looksOf}
+use Rattle.tree.specs.Tests.{same}
+use Rattle.tree.specs.Styles.{stateAt}
+use Rattle.tree.specs.Trees.{poolOf, withLooks}
+use Rattle.tree.specs.Wearing.{looking}
+use borrow.Author.Needs.{needs}
+use Rattle.tree.proofs.wearing.wear.Statement.{statement}
+use Rattle.tree.proofs.wearing.wear.Tie as tie
+
+touches-requires : tie.Need-touches-requires
+touches-requires c κs = search needs
+
+touches-requires-2 : tie.Need-touches-requires-2
+touches-requires-2 c κs = search needs
+
+returns : tie.Need-returns
+unfolding looking withLooks
+returns c =
+    let h : length (c .before .before .before .before .before .args .u .layout) ≡ 128 = sym (length-map (c .before .before .before .before .before .args .u .layout) _) ∙ c .before .before .before .before .before .good .0 .1 .1 .1 .0 .1 .0 .1 in
+    let g : length (c .before .before .before .before .before .args .u .states) ≡ 128 = sym (length-map (c .before .before .before .before .before .args .u .states) _) ∙ c .before .before .before .before .before .good .0 .1 .1 .1 .1 .1 .1 .1 .1 .1 .0 .1 .0 .1 in
+    rw (wear-past (poolOf (c .before .before .before .before .before .args .u)) (looksOf (c .before .before .before .before .before .args .u)) (c .before .before .before .before .before .args .i) (c .before .before .before .before .before .args .bits) (omega (arith, h, c .before .before .before .if1 .taken)) (omega (arith, g, c .before .before .before .if1 .taken))) (cc)
+
+mul-s : tie.Need-mul-s
+mul-s c = search needs
+
+array-copy-out-s : tie.Need-array-copy-out-s
+array-copy-out-s c = search needs
+
+entry-of-requires : tie.Need-entry-of-requires
+entry-of-requires c κs = search needs
+
+worn-requires : tie.Need-worn-requires
+worn-requires c κs = search needs
+
+mul-t18 : tie.Need-mul-t18
+mul-t18 c = search needs
+
+element-set-from-out : tie.Need-element-set-from-out
+element-set-from-out c = search needs
+
+returns-2 : tie.Need-returns-2
+unfolding looking withLooks wear stateAt same
+returns-2 c = rw (← c .before .before .before .entry-of .ensures, eq-eqb _ _ (c .if2 .taken)) (cc)
+
+swap-requires : tie.Need-swap-requires
+swap-requires c κs = search needs
+
+returns-3 : tie.Need-returns-3
+unfolding looking withLooks wear stateAt same
+returns-3 c = rw (← c .before .before .before .before .before .entry-of .ensures, ne-eqb _ _ (c .before .before .if2 .left), ← c .before .before .before .before .worn .ensures) (c .swap .ensures)
+
+pub wear-spec : {M : Type 1} → statement M
+wear-spec =
+    tie.close
+    (tie.spec
+    touches-requires
+    touches-requires-2
+    returns
+    mul-s
+    array-copy-out-s
+    entry-of-requires
+    worn-requires
+    mul-t18
+    element-set-from-out
+    returns-2
+    swap-requires
+    returns-3)

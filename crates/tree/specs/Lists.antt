@@ -1,0 +1,24 @@
+-- A list of slots kept in an array of 128 with a count.
+use Prim.Native.Nat.{ℕ, _+_}
+use mathlib.Core.List.{List, [], _∷_}
+use lib.Dec.{ltb}
+use lib.ListN.{set, take, replicate}
+use Rattle.tree.specs.Tests.{pick}
+use Rattle.tree.specs.declared.links.Order.{Order}
+
+-- The slots listed.
+unfoldable pub listed : Order → List ℕ
+listed o = take (o .count) (o .items)
+
+-- None.
+unfoldable pub noneListed : Order
+noneListed = record { items = replicate 128 0; count = 0 }
+
+-- One more after them, where there is room.
+unfoldable pub added : Order → ℕ → Order
+added o i = pick (ltb (o .count) 128) (record { items = set (o .items) (o .count) i; count = o .count + 1 }) o
+
+-- More after them, as far as there is room.
+unfoldable pub addedAll : Order → List ℕ → Order
+addedAll o [] = o
+addedAll o (i ∷ is) = addedAll (added o i) is

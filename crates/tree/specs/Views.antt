@@ -1,0 +1,75 @@
+-- What layout's code hands around, as the records of its definitions.
+use Rattle.arithmetic.specs.Scalar.{addSat, subSat, maxOf}
+use Prim.Native.Nat.{ℕ, zero, suc, _+_, _<_, _≤_}
+use mathlib.Core.List.{List, _++_}
+use mathlib.Core.Path.{_≡_}
+use lib.IntN.{ℤ, pos}
+use lib.ListN.{getD, replicate, take}
+use Rattle.tree.specs.Layout.{Axes, Extent, Child, axes, outer, offset, boxed}
+use Rattle.tree.specs.declared.Direction.{Direction}
+use Rattle.tree.specs.declared.Direction.the-variants.{Row, Column}
+use Rattle.tree.specs.declared.Style.{Style}
+use Rattle.tree.specs.declared.Rect.{Rect}
+use Rattle.tree.specs.declared.Edges.{Edges}
+use Rattle.tree.specs.declared.LayoutSlot.{LayoutSlot}
+use Rattle.tree.specs.declared.layout.Lengths.{Lengths}
+use Rattle.tree.specs.declared.layout.Order.{Order}
+use Rattle.tree.specs.declared.layout.Extent as code
+
+-- What a parent sees of a layout slot.
+abbrev pub childOf : LayoutSlot → Child
+childOf x = record { style = x .style; wants = record { width = x .«wanted_width»; height = x .«wanted_height» } }
+
+abbrev pub axesOf : Lengths → Axes
+axesOf a = record { main = a .main; cross = a .cross }
+
+abbrev pub extentOf : code.Extent → Extent
+extentOf e = record { width = e .width; height = e .height }
+
+abbrev pub noAxes : Axes
+noAxes = record { main = pos 0; cross = pos 0 }
+
+-- A sum of children, and one child more.
+unfoldable pub joined : Direction → Axes → Child → Axes
+joined d a c = let o = outer d c in record { main = addSat (a .main) (o .main); cross = maxOf (a .cross) (o .cross) }
+
+-- A child's wanted size, grown along the main axis.
+abbrev pub grownOf : Direction → Child → ℤ → Extent
+grownOf Row c growth = record { width = addSat (c .wants .width) growth; height = c .wants .height }
+grownOf Column c growth = record { width = c .wants .width; height = addSat (c .wants .height) growth }
+
+-- One child of `boxes`: its box, and the cursor behind it.
+unfoldable pub boxAt : Style → ℤ → ℤ → ℤ → ℤ → ℤ → Child → Rect
+boxAt s cx cy inner cursor growth c = boxed (s .direction) cx cy cursor (offset (s .«align_cross») (subSat inner (outer (s .direction) c .cross))) growth c
+
+unfoldable pub pastOf : Style → ℤ → ℤ → Child → ℤ
+pastOf s cursor growth c = addSat (addSat (addSat cursor (outer (s .direction) c .main)) growth) (s .gap)
+
+abbrev pub growOf : Child → ℕ
+growOf c = c .style .grow
+
+unfoldable pub noGrows : List ℕ
+noGrows = replicate 128 0
+
+-- k shares from a place on, added one by one to a sum.
+unfoldable pub addedFrom : ℤ → List ℤ → ℕ → ℕ → ℤ
+addedFrom sum shares n zero = sum
+addedFrom sum shares n (suc k) = addedFrom (addSat sum (getD shares n (pos 0))) shares (n + 1) k
+
+-- A node's box less its padding, along its axes.
+unfoldable pub innerOf : Direction → Edges → Rect → Axes
+innerOf d p r = axes d (subSat (subSat (r .width) (p .left)) (p .right)) (subSat (subSat (r .height) (p .top)) (p .bottom))
+
+-- Each of a list's numbers is a slot's.
+abbrev pub Slotted : List ℕ → Type 0
+Slotted ids = (k : ℕ) → getD ids k 0 < 128
+
+-- The slots of an order.
+unfoldable pub listed : Order → List ℕ
+listed q = take (q .count) (q .ids)
+
+-- A list went behind an order, as far as 128 places hold it.
+pub record Pushed (q r : Order) (l : List ℕ) : Type 0 where
+  pub room : q .count ≤ 128 → r .count ≤ 128
+  pub more : q .count ≤ r .count
+  pub is : listed r ≡ take 128 (listed q ++ l)

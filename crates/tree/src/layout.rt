@@ -1,0 +1,649 @@
+// Layout: what a node wants to be, and where it places its children.
+ghost use mathlib.Core.Path.{_≡_};
+ghost use mathlib.Core.Bool.{_&&_};
+ghost use mathlib.Core.List.{map, [], _∷_};
+ghost use lib.IntN.{pos};
+ghost use Prim.Native.Nat.{min, _≤_};
+ghost use lib.ListN.{length, getD, take};
+ghost use lib.Seq.{sets};
+ghost use lib.Signed.{leZ, ltZ};
+ghost use Rattle.arithmetic.specs.Scalar.{addSat, subSat};
+ghost use Rattle.arithmetic.specs.Growth.{planGrowth};
+ghost use lib.Dec.{ltb};
+ghost use Rattle.tree.specs.Tests.{pick};
+ghost use Rattle.tree.specs.Slots.{chain, order};
+ghost use Rattle.tree.specs.Layout as laid;
+ghost use Rattle.tree.specs.Views.{childOf, axesOf, extentOf, noAxes, joined, grownOf, boxAt, pastOf, growOf, noGrows, addedFrom, innerOf, Slotted, listed, Pushed};
+use crate::Align;
+use crate::Direction;
+use crate::Edges;
+use crate::LayoutSlot;
+use crate::Rect;
+use crate::Size;
+use crate::Slot;
+use crate::Style;
+use crate::Viewport;
+use crate::input;
+use arithmetic::growth;
+use arithmetic::scalar;
+
+// Lengths along a parent's main and cross axis.
+pub struct Lengths {
+    pub main: i64,
+    pub cross: i64,
+}
+
+// Whether p lies from `start` on, before `length` more.
+fn spans(start: i64, length: i64, p: i64) -> bool
+    ensures { λ r. ⌜ r ≡ (leZ start p && ltZ p (addSat start length)) ⌝ }
+{
+    let end = scalar::saturating_add(start, length);
+    if start <= p { p < end } else { false }
+}
+
+// Whether the box holds the pixel: left and top edges in, right and bottom out.
+pub fn holds(x: i32, y: i32, r: Rect) -> bool
+    ensures { λ q. ⌜ q ≡ laid.holds x y r ⌝ }
+{
+    let px = scalar::from_int(x);
+    let py = scalar::from_int(y);
+    let across = spans(r.x, r.width, px);
+    let down = spans(r.y, r.height, py);
+    across & down
+}
+
+// Where a run starts in free space: at the start where there is none.
+pub fn offset(a: Align, free: i64) -> i64
+    ensures { λ r. ⌜ r ≡ laid.offset a free ⌝ }
+{
+    if free <= 0 {
+        return 0;
+    }
+    match a {
+        Align::Start => 0,
+        Align::Center => scalar::half(free),
+        Align::End => free,
+    }
+}
+
+// A set size, or the size needed.
+pub fn sized(size: Size, needed: i64) -> i64
+    ensures { λ r. ⌜ r ≡ laid.sized size needed ⌝ }
+{
+    match size {
+        Size::Auto => needed,
+        Size::Px(set) => set,
+    }
+}
+
+// A length with what stands before and behind it.
+fn widened(a: i64, before: i64, behind: i64) -> i64
+    ensures { λ r. ⌜ r ≡ addSat (addSat a before) behind ⌝ }
+{
+    let sum = scalar::saturating_add(a, before);
+    scalar::saturating_add(sum, behind)
+}
+
+// Width and height as lengths along a direction's axes.
+fn axes(d: Direction, width: i64, height: i64) -> Lengths
+    ensures { λ r. ⌜ axesOf r ≡ laid.axes d width height ⌝ }
+{
+    match d {
+        Direction::Row => Lengths {
+            main: width,
+            cross: height,
+        },
+        Direction::Column => Lengths {
+            main: height,
+            cross: width,
+        },
+    }
+}
+
+// A child's wanted size with its margins, along its parent's axes.
+pub fn outer(d: Direction, child: LayoutSlot) -> Lengths
+    ensures { λ r. ⌜ axesOf r ≡ laid.outer d (childOf child) ⌝ }
+{
+    let s = child.style;
+    let m = s.margin;
+    let width = widened(child.wanted_width, m.left, m.right);
+    let height = widened(child.wanted_height, m.top, m.bottom);
+    axes(d, width, height)
+}
+
+// The children so far, and one more: the main lengths summed, the largest across.
+fn with_child(a: Lengths, d: Direction, child: LayoutSlot) -> Lengths
+    ensures { λ r. ⌜ axesOf r ≡ joined d (axesOf a) (childOf child) ⌝ }
+{
+    let o = outer(d, child);
+    Lengths {
+        main: scalar::saturating_add(a.main, o.main),
+        cross: scalar::max(a.cross, o.cross),
+    }
+}
+
+// How many children a chain has, from its first on.
+fn child_count(slots: [Slot; 128], first: u32) -> u32
+    ensures { λ r. ⌜ r ≡ length (chain 128 slots first) ⌝ }
+{
+    let mut child = first;
+    let mut left: u32 = 128;
+    while child < 128 {
+        if left == 0 {
+            return 128;
+        }
+        let k = child as usize;
+        let s = slots[k];
+        child = s.next_sibling;
+        left = left - 1;
+    }
+    128 - left
+}
+
+// The children of a chain: their main lengths summed, and the largest across.
+fn sum_children(slots: [Slot; 128], layout: [LayoutSlot; 128], d: Direction, first: u32) -> Lengths
+    ensures { λ r. ⌜ axesOf r ≡ laid.summed d noAxes (map (laid.seen layout) (chain 128 slots first)) ⌝ }
+{
+    let mut sum = Lengths { main: 0, cross: 0 };
+    let mut child = first;
+    let mut left: u32 = 128;
+    while child < 128 {
+        if left == 0 {
+            return sum;
+        }
+        let k = child as usize;
+        let l = layout[k];
+        sum = with_child(sum, d, l);
+        let s = slots[k];
+        child = s.next_sibling;
+        left = left - 1;
+    }
+    sum
+}
+
+// The children's extent: outer lengths with a gap between each two, and the largest across.
+pub fn content_extent(
+    slots: [Slot; 128],
+    layout: [LayoutSlot; 128],
+    style: Style,
+    first: u32,
+) -> Lengths
+    ensures { λ r. ⌜ axesOf r ≡ laid.content style (map (laid.seen layout) (chain 128 slots first)) ⌝ }
+{
+    let d = style.direction;
+    let sum = sum_children(slots, layout, d, first);
+    let count = child_count(slots, first);
+    if count < 2 {
+        return sum;
+    }
+    let gaps = scalar::gap_times(style.gap, count - 1);
+    Lengths {
+        main: scalar::saturating_add(sum.main, gaps),
+        cross: sum.cross,
+    }
+}
+
+// A width and a height.
+pub struct Extent {
+    pub width: i64,
+    pub height: i64,
+}
+
+// Lengths along a direction's axes as a width and a height.
+fn turned(d: Direction, a: Lengths) -> Extent
+    ensures { λ r. ⌜ extentOf r ≡ laid.extent d (axesOf a) ⌝ }
+{
+    match d {
+        Direction::Row => Extent {
+            width: a.main,
+            height: a.cross,
+        },
+        Direction::Column => Extent {
+            width: a.cross,
+            height: a.main,
+        },
+    }
+}
+
+// A set size, or the content's with the padding before and behind it.
+fn wanted(size: Size, content: i64, before: i64, behind: i64) -> i64
+    ensures { λ r. ⌜ r ≡ laid.sized size (addSat (addSat content before) behind) ⌝ }
+{
+    let needed = widened(content, before, behind);
+    sized(size, needed)
+}
+
+// What a node of this style wants to be, from its children.
+pub fn want(slots: [Slot; 128], layout: [LayoutSlot; 128], style: Style, first: u32) -> Extent
+    ensures { λ r. ⌜ extentOf r ≡ laid.want style (map (laid.seen layout) (chain 128 slots first)) ⌝ }
+{
+    let d = style.direction;
+    let p = style.padding;
+    let width = style.width;
+    let height = style.height;
+    let c = content_extent(slots, layout, style, first);
+    let e = turned(d, c);
+    Extent {
+        width: wanted(width, e.width, p.left, p.right),
+        height: wanted(height, e.height, p.top, p.bottom),
+    }
+}
+
+// The slot with a wanted size.
+fn with_wants(l: LayoutSlot, e: Extent) -> LayoutSlot
+    ensures { λ r. ⌜ r ≡ laid.withWants l (extentOf e) ⌝ }
+{
+    let mut out = l;
+    out.wanted_width = e.width;
+    out.wanted_height = e.height;
+    out
+}
+
+// The slot with a box.
+fn with_rect(l: LayoutSlot, rect: Rect) -> LayoutSlot
+    ensures { λ r. ⌜ r ≡ laid.withRect l rect ⌝ }
+{
+    let mut out = l;
+    out.rect = rect;
+    out
+}
+
+// Slot i stores what it wants to be.
+pub fn measure(slots: [Slot; 128], layout: [LayoutSlot; 128], i: u32) -> [LayoutSlot; 128]
+    ensures { λ r. ⌜ r ≡ laid.measureAt slots layout i ⌝ }
+{
+    let mut out = layout;
+    if i >= 128 {
+        return out;
+    }
+    let k = i as usize;
+    let s = slots[k];
+    let l = layout[k];
+    let style = l.style;
+    let e = want(slots, layout, style, s.first_child);
+    out[k] = with_wants(l, e);
+    out
+}
+
+// A corner of a box, raw.
+pub struct Point {
+    pub x: i64,
+    pub y: i64,
+}
+
+// A child's wanted size, grown along the main axis.
+fn grown(d: Direction, child: LayoutSlot, growth: i64) -> Extent
+    ensures { λ r. ⌜ extentOf r ≡ grownOf d (childOf child) growth ⌝ }
+{
+    match d {
+        Direction::Row => Extent {
+            width: scalar::saturating_add(child.wanted_width, growth),
+            height: child.wanted_height,
+        },
+        Direction::Column => Extent {
+            width: child.wanted_width,
+            height: scalar::saturating_add(child.wanted_height, growth),
+        },
+    }
+}
+
+// A child's box: from the corner of the content, so far along the main axis and so far across.
+fn boxed(d: Direction, corner: Point, shift: Lengths, growth: i64, child: LayoutSlot) -> Rect
+    ensures { λ r. ⌜ r ≡ laid.boxed d (corner .x) (corner .y) (shift .main) (shift .cross) growth (childOf child) ⌝ }
+{
+    let s = child.style;
+    let m = s.margin;
+    let e = turned(d, shift);
+    let size = grown(d, child, growth);
+    Rect {
+        x: widened(corner.x, e.width, m.left),
+        y: widened(corner.y, e.height, m.top),
+        width: size.width,
+        height: size.height,
+    }
+}
+
+// The share of place n; 0 past the array.
+fn share_at(shares: [i64; 128], n: u32) -> i64
+    ensures { λ r. ⌜ r ≡ getD shares n (pos 0) ⌝ }
+{
+    if n >= 128 {
+        return 0;
+    }
+    let k = n as usize;
+    shares[k]
+}
+
+// A child's box at the cursor, `run.main`, aligned in the `run.cross` across.
+fn child_box(style: Style, corner: Point, run: Lengths, growth: i64, child: LayoutSlot) -> Rect
+    ensures { λ r. ⌜ r ≡ boxAt style (corner .x) (corner .y) (run .cross) (run .main) growth (childOf child) ⌝ }
+{
+    let d = style.direction;
+    let a = style.align_cross;
+    let o = outer(d, child);
+    let free = scalar::saturating_sub(run.cross, o.cross);
+    let shift = Lengths {
+        main: run.main,
+        cross: offset(a, free),
+    };
+    boxed(d, corner, shift, growth, child)
+}
+
+// The cursor behind a child and a gap.
+fn past_child(style: Style, run: Lengths, growth: i64, child: LayoutSlot) -> Lengths
+    ensures { λ r. ⌜ (r .main ≡ pastOf style (run .main) growth (childOf child)) × (r .cross ≡ run .cross) ⌝ }
+{
+    let d = style.direction;
+    let o = outer(d, child);
+    let sum = widened(run.main, o.main, growth);
+    Lengths {
+        main: scalar::saturating_add(sum, style.gap),
+        cross: run.cross,
+    }
+}
+
+// The children get their boxes one after another, each with its share of growth.
+fn place_children(
+    slots: [Slot; 128],
+    layout: [LayoutSlot; 128],
+    style: Style,
+    corner: Point,
+    run: Lengths,
+    shares: [i64; 128],
+    first: u32,
+) -> [LayoutSlot; 128]
+    ensures { λ r. ⌜ r ≡ laid.setRects layout (chain 128 slots first) (laid.boxes style (corner .x) (corner .y) (run .cross) (run .main) shares (map (laid.seen layout) (chain 128 slots first))) ⌝ }
+{
+    let mut out = layout;
+    let mut at = run;
+    let mut child = first;
+    let mut left: u32 = 128;
+    while child < 128 {
+        if left == 0 {
+            return out;
+        }
+        let k = child as usize;
+        let l = layout[k];
+        let growth = share_at(shares, 128 - left);
+        let rect = child_box(style, corner, at, growth, l);
+        let o = out[k];
+        out[k] = with_rect(o, rect);
+        at = past_child(style, at, growth, l);
+        let s = slots[k];
+        child = s.next_sibling;
+        left = left - 1;
+    }
+    out
+}
+
+// No grows at all.
+fn no_grows() -> [u32; 128]
+    ensures { λ r. ⌜ r ≡ noGrows ⌝ }
+{
+    [0u32; 128]
+}
+
+// The grows of a chain's children in order, and 0 behind them.
+fn grows_of(slots: [Slot; 128], layout: [LayoutSlot; 128], first: u32) -> [u32; 128]
+    ensures { λ r. ⌜ r ≡ sets noGrows 0 (map growOf (map (laid.seen layout) (chain 128 slots first))) ⌝ }
+{
+    let mut out = no_grows();
+    let mut child = first;
+    let mut left: u32 = 128;
+    while child < 128 {
+        if left == 0 {
+            return out;
+        }
+        let k = child as usize;
+        let n = (128 - left) as usize;
+        let l = layout[k];
+        let style = l.style;
+        out[n] = style.grow;
+        let s = slots[k];
+        child = s.next_sibling;
+        left = left - 1;
+    }
+    out
+}
+
+// The children's shares of a leftover.
+fn shares_of(slots: [Slot; 128], layout: [LayoutSlot; 128], leftover: i64, first: u32) -> [i64; 128]
+    ensures { λ r. ⌜ r ≡ planGrowth leftover (map growOf (map (laid.seen layout) (chain 128 slots first))) (length (chain 128 slots first)) ⌝ }
+{
+    let count = child_count(slots, first);
+    let grows = grows_of(slots, layout, first);
+    growth::plan_growth(leftover, grows, count as usize)
+}
+
+// A raw number.
+struct Raw {
+    raw: i64,
+}
+
+fn plus(a: Raw, b: i64) -> Raw
+    ensures { λ r. ⌜ r .raw ≡ addSat (a .raw) b ⌝ }
+{
+    Raw {
+        raw: scalar::saturating_add(a.raw, b),
+    }
+}
+
+// The first `count` shares summed.
+fn shares_total(shares: [i64; 128], count: u32) -> Raw
+    ensures { λ r. ⌜ r .raw ≡ addedFrom (pos 0) shares 0 count ⌝ }
+{
+    let mut sum = Raw { raw: 0 };
+    let mut n: u32 = 0;
+    while n < count {
+        let x = share_at(shares, n);
+        sum = plus(sum, x);
+        n = n + 1;
+    }
+    sum
+}
+
+// Where the run of children starts: growth has taken its part of the leftover.
+fn run_start(justify: Align, leftover: i64, shares: [i64; 128], count: u32) -> i64
+    ensures { λ r. ⌜ r ≡ laid.offset justify (subSat leftover (addedFrom (pos 0) shares 0 count)) ⌝ }
+{
+    let total = shares_total(shares, count);
+    let free = scalar::saturating_sub(leftover, total.raw);
+    offset(justify, free)
+}
+
+// A length less what stands before and behind in it.
+fn narrowed(a: i64, before: i64, behind: i64) -> i64
+    ensures { λ r. ⌜ r ≡ subSat (subSat a before) behind ⌝ }
+{
+    let rest = scalar::saturating_sub(a, before);
+    scalar::saturating_sub(rest, behind)
+}
+
+// What a node's padding leaves of its box, along its axes.
+fn inner(d: Direction, p: Edges, rect: Rect) -> Lengths
+    ensures { λ r. ⌜ axesOf r ≡ innerOf d p rect ⌝ }
+{
+    let width = narrowed(rect.width, p.left, p.right);
+    let height = narrowed(rect.height, p.top, p.bottom);
+    axes(d, width, height)
+}
+
+// The corner of a node's content.
+fn content_corner(p: Edges, rect: Rect) -> Point
+    ensures { λ r. ⌜ (r .x ≡ addSat (rect .x) (p .left)) × (r .y ≡ addSat (rect .y) (p .top)) ⌝ }
+{
+    Point {
+        x: scalar::saturating_add(rect.x, p.left),
+        y: scalar::saturating_add(rect.y, p.top),
+    }
+}
+
+// The children of a node get their boxes in its own.
+fn arrange_in(
+    slots: [Slot; 128],
+    layout: [LayoutSlot; 128],
+    style: Style,
+    rect: Rect,
+    first: u32,
+) -> [LayoutSlot; 128]
+    ensures { λ r. ⌜ r ≡ laid.setRects layout (chain 128 slots first) (laid.place style rect (map (laid.seen layout) (chain 128 slots first))) ⌝ }
+{
+    let d = style.direction;
+    let p = style.padding;
+    let justify = style.justify;
+    let count = child_count(slots, first);
+    let corner = content_corner(p, rect);
+    let room = inner(d, p, rect);
+    let content = content_extent(slots, layout, style, first);
+    let leftover = scalar::saturating_sub(room.main, content.main);
+    let shares = shares_of(slots, layout, leftover, first);
+    let run = Lengths {
+        main: run_start(justify, leftover, shares, count),
+        cross: room.cross,
+    };
+    place_children(slots, layout, style, corner, run, shares, first)
+}
+
+// The children of slot i get their boxes; an index that is no slot changes nothing.
+pub fn arrange(slots: [Slot; 128], layout: [LayoutSlot; 128], i: u32) -> [LayoutSlot; 128]
+    ensures { λ r. ⌜ r ≡ pick (ltb i 128) (laid.arrangeAt slots layout i) layout ⌝ }
+{
+    if i >= 128 {
+        return layout;
+    }
+    let k = i as usize;
+    let s = slots[k];
+    let l = layout[k];
+    let style = l.style;
+    let rect = l.rect;
+    arrange_in(slots, layout, style, rect, s.first_child)
+}
+
+// How many of the 128 places a count means.
+fn places(count: u32) -> u32
+    ensures { λ r. ⌜ r ≡ min count 128 ⌝ }
+{
+    if count < 128 { count } else { 128 }
+}
+
+// The first `count` slots of an order store what they want to be, the last first: children before parents.
+pub fn measure_all(
+    slots: [Slot; 128],
+    layout: [LayoutSlot; 128],
+    ids: [u32; 128],
+    count: u32,
+) -> [LayoutSlot; 128]
+    ensures { λ r. ⌜ r ≡ laid.measureAll slots layout (take count ids) ⌝ }
+{
+    let mut out = layout;
+    let mut j = places(count);
+    while j > 0 {
+        j = j - 1;
+        let k = j as usize;
+        let id = ids[k];
+        let next = measure(slots, out, id);
+        out = next;
+    }
+    out
+}
+
+// The children of the first `count` slots of an order get their boxes: parents before children.
+pub fn arrange_all(
+    slots: [Slot; 128],
+    layout: [LayoutSlot; 128],
+    ids: [u32; 128],
+    count: u32,
+) -> [LayoutSlot; 128]
+    ensures { λ r. ⌜ (Slotted (take count ids) → r ≡ laid.arrangeAll slots layout (take count ids)) ⌝ }
+{
+    let n = places(count);
+    let mut out = layout;
+    let mut j: u32 = 0;
+    while j < n {
+        let k = j as usize;
+        let id = ids[k];
+        let next = arrange(slots, out, id);
+        out = next;
+        j = j + 1;
+    }
+    out
+}
+
+// Slots in an order: the first `count` of the ids.
+pub struct Order {
+    pub ids: [u32; 128],
+    pub count: usize,
+}
+
+fn root_alone() -> Order
+    ensures { λ r. ⌜ (r .count ≡ 1) × (listed r ≡ 0 ∷ []) ⌝ }
+{
+    let ids = [0u32; 128];
+    Order { ids, count: 1 }
+}
+
+// A chain of siblings goes behind the order, as far as there is room.
+fn push_chain(q: Order, slots: [Slot; 128], first: u32) -> Order
+    ensures { λ r. ⌜ Pushed q r (chain 128 slots first) ⌝ }
+{
+    let mut out = q;
+    let mut child = first;
+    let mut left: u32 = 128;
+    while child < 128 {
+        let n = out.count;
+        if left == 0 {
+            return out;
+        }
+        if n >= 128 {
+            return out;
+        }
+        out.ids[n] = child;
+        out.count = n + 1;
+        let k = child as usize;
+        let s = slots[k];
+        child = s.next_sibling;
+        left = left - 1;
+    }
+    out
+}
+
+// Every slot below the root, parents before children, a level at a time.
+pub fn collect_order(slots: [Slot; 128]) -> Order
+    ensures { λ r. ⌜ (r .count ≤ 128) × (listed r ≡ order 128 slots (0 ∷ [])) ⌝ }
+{
+    let mut q = root_alone();
+    let mut at: usize = 0;
+    while at < q.count {
+        let id = q.ids[at];
+        let first = input::first_child(slots, id);
+        q = push_chain(q, slots, first);
+        at = at + 1;
+    }
+    q
+}
+
+// A pass: the wanted sizes from the last of the order to the first, the viewport for the root, then the boxes.
+pub fn solve(slots: [Slot; 128], layout: [LayoutSlot; 128], view: Viewport) -> [LayoutSlot; 128]
+    ensures { λ r. ⌜ r ≡ laid.passed slots layout view ⌝ }
+{
+    let o = collect_order(slots);
+    let ids = o.ids;
+    let count = short(o.count);
+    let mut out = measure_all(slots, layout, ids, count);
+    let root = out[0];
+    let rect = Rect {
+        x: 0,
+        y: 0,
+        width: view.width,
+        height: view.height,
+    };
+    out[0] = with_rect(root, rect);
+    arrange_all(slots, out, ids, count)
+}
+
+// A count of at most 128 places, in 32 bits.
+fn short(count: usize) -> u32
+    ensures { λ r. ⌜ r ≡ min count 128 ⌝ }
+{
+    if count < 128 { count as u32 } else { 128 }
+}

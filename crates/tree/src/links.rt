@@ -1,0 +1,374 @@
+// Slots and their links, over the array of slots by value. An index that is no slot reads the zero slot and stores nothing.
+ghost use mathlib.Core.Path.{_≡_};
+ghost use Rattle.tree.specs.Slots.{at, put, isLive, idAt, change, setFirst, setLast, setPrev, setNext, linkLast, NIL, chain, kidsAt, order, freeOrder, idle, aged, freed};
+ghost use Rattle.tree.specs.Slots as links;
+ghost use Prim.Native.Nat.{_≤_};
+ghost use mathlib.Core.List.{[], _∷_};
+ghost use lib.ListN.{length, getD, take};
+ghost use Rattle.tree.specs.Lists.{listed, noneListed, addedAll};
+ghost use Rattle.tree.specs.Lists as lists;
+ghost use Rattle.tree.specs.Tests.{pick, same, finalOr};
+use crate::Slot;
+use field::NodeId;
+
+// Slots listed: the first `count` items.
+pub(crate) struct Order {
+    pub items: [u32; 128],
+    pub count: u32,
+}
+
+// The slots after some were freed, and the head of the free chain.
+pub(crate) struct Freed {
+    pub slots: [Slot; 128],
+    pub free: u32,
+}
+
+// No neighbour.
+const NIL: u32 = 4294967295;
+
+// Slot i.
+pub(crate) fn slot_at(slots: [Slot; 128], i: u32) -> Slot
+    ensures { λ r. ⌜ r ≡ at slots i ⌝ }
+{
+    if i < 128 {
+        let k = i as usize;
+        return slots[k];
+    }
+    Slot {
+        generation: 0,
+        live: false,
+        parent: 0,
+        first_child: 0,
+        last_child: 0,
+        prev_sibling: 0,
+        next_sibling: 0,
+    }
+}
+
+// The slots with s as slot i.
+pub(crate) fn with_slot(slots: [Slot; 128], i: u32, s: Slot) -> [Slot; 128]
+    ensures { λ r. ⌜ r ≡ put slots i s ⌝ }
+{
+    let mut out = slots;
+    if i < 128 {
+        let k = i as usize;
+        out[k] = s;
+        return out;
+    }
+    out
+}
+
+// The id that names slot i.
+pub(crate) fn id_at(slots: [Slot; 128], i: u32) -> NodeId
+    ensures { λ r. ⌜ r ≡ idAt slots i ⌝ }
+{
+    if i >= 128 {
+        return NodeId {
+            index: i,
+            generation: 0,
+        };
+    }
+    let k = i as usize;
+    let s = slots[k];
+    NodeId {
+        index: i,
+        generation: s.generation,
+    }
+}
+
+// Whether the id names a live slot below the limit.
+pub(crate) fn is_live(limit: u32, slots: [Slot; 128], d: NodeId) -> bool
+    ensures { λ r. ⌜ r ≡ isLive limit slots d ⌝ }
+{
+    let s = slot_at(slots, d.index);
+    (d.index < limit) & (s.live & (s.generation == d.generation))
+}
+
+// The slots with v as the first child of slot i.
+fn set_first(slots: [Slot; 128], i: u32, v: u32) -> [Slot; 128]
+    ensures { λ r. ⌜ r ≡ change slots i (setFirst v) ⌝ }
+{
+    let mut s = slot_at(slots, i);
+    s.first_child = v;
+    with_slot(slots, i, s)
+}
+
+// The slots with v as the last child of slot i.
+fn set_last(slots: [Slot; 128], i: u32, v: u32) -> [Slot; 128]
+    ensures { λ r. ⌜ r ≡ change slots i (setLast v) ⌝ }
+{
+    let mut s = slot_at(slots, i);
+    s.last_child = v;
+    with_slot(slots, i, s)
+}
+
+// The slots with v as the previous sibling of slot i.
+fn set_prev(slots: [Slot; 128], i: u32, v: u32) -> [Slot; 128]
+    ensures { λ r. ⌜ r ≡ change slots i (setPrev v) ⌝ }
+{
+    let mut s = slot_at(slots, i);
+    s.prev_sibling = v;
+    with_slot(slots, i, s)
+}
+
+// The slots with v as the next sibling of slot i.
+fn set_next(slots: [Slot; 128], i: u32, v: u32) -> [Slot; 128]
+    ensures { λ r. ⌜ r ≡ change slots i (setNext v) ⌝ }
+{
+    let mut s = slot_at(slots, i);
+    s.next_sibling = v;
+    with_slot(slots, i, s)
+}
+
+// The slots with slot `index` as the last child of `parent`.
+pub(crate) fn link_last(slots: [Slot; 128], parent: u32, index: u32) -> [Slot; 128]
+    ensures { λ r. ⌜ r ≡ linkLast slots parent index ⌝ }
+{
+    let p = slot_at(slots, parent);
+    let last = p.last_child;
+    if last == NIL {
+        let alone = set_first(slots, parent, index);
+        return set_last(alone, parent, index);
+    }
+    let after = set_next(slots, last, index);
+    let before = set_prev(after, index, last);
+    set_last(before, parent, index)
+}
+
+// The slots with what stands before slot `s` pointing past it.
+fn unlink_before(slots: [Slot; 128], s: Slot) -> [Slot; 128]
+    ensures { λ r. ⌜ r ≡ pick (same (s .«prev_sibling») NIL) (change slots (s .parent) (setFirst (s .«next_sibling»))) (change slots (s .«prev_sibling») (setNext (s .«next_sibling»))) ⌝ }
+{
+    let prev = s.prev_sibling;
+    if prev == NIL {
+        return set_first(slots, s.parent, s.next_sibling);
+    }
+    set_next(slots, prev, s.next_sibling)
+}
+
+// The slots with what stands after slot `s` pointing back past it.
+fn unlink_after(slots: [Slot; 128], s: Slot) -> [Slot; 128]
+    ensures { λ r. ⌜ r ≡ pick (same (s .«next_sibling») NIL) (change slots (s .parent) (setLast (s .«prev_sibling»))) (change slots (s .«next_sibling») (setPrev (s .«prev_sibling»))) ⌝ }
+{
+    let next = s.next_sibling;
+    if next == NIL {
+        return set_last(slots, s.parent, s.prev_sibling);
+    }
+    set_prev(slots, next, s.prev_sibling)
+}
+
+// The slots with slot `index` out of its parent's children. Its own links stay.
+pub(crate) fn unlink(slots: [Slot; 128], index: u32) -> [Slot; 128]
+    ensures { λ r. ⌜ r ≡ links.unlink slots index ⌝ }
+{
+    let s = slot_at(slots, index);
+    let before = unlink_before(slots, s);
+    unlink_after(before, s)
+}
+
+// No slots.
+fn none_listed() -> Order
+    ensures { λ r. ⌜ r ≡ noneListed ⌝ }
+{
+    Order {
+        items: [0u32; 128],
+        count: 0,
+    }
+}
+
+// The list with slot i after it, where there is room.
+fn added(o: Order, i: u32) -> Order
+    ensures { λ r. ⌜ r ≡ lists.added o i ⌝ }
+{
+    let n = o.count;
+    if n < 128 {
+        let mut items = o.items;
+        let k = n as usize;
+        items[k] = i;
+        return Order {
+            items: items,
+            count: n + 1,
+        };
+    }
+    o
+}
+
+// The list with the node and all below it after it, `depth` levels down, in the order of freeing. A full list ends the walk, so that no
+// links keep it going.
+fn list_freed(slots: [Slot; 128], o: Order, node: u32, depth: u32) -> Order
+    ensures { λ r. ⌜ r ≡ addedAll o (freeOrder depth slots node) ⌝ }
+{
+    if depth == 0 {
+        return o;
+    }
+    if 128 <= o.count {
+        return o;
+    }
+    let s = slot_at(slots, node);
+    let mut out = added(o, node);
+    let mut child = s.last_child;
+    let mut left: u32 = 128;
+    while 0 < left {
+        if 128 <= child {
+            return out;
+        }
+        let c = slot_at(slots, child);
+        out = list_freed(slots, out, child, depth - 1);
+        child = c.prev_sibling;
+        left -= 1;
+    }
+    out
+}
+
+// The node and all below it in the order of freeing, as far as 128 go.
+pub(crate) fn freed_order(slots: [Slot; 128], node: u32) -> Order
+    ensures { λ r. ⌜ (r .count ≤ 128) × (listed r ≡ take 128 (freeOrder 128 slots node)) ⌝ }
+{
+    let none = none_listed();
+    list_freed(slots, none, node, 128)
+}
+
+// How many slots are listed.
+pub(crate) fn listed_count(o: Order) -> u32
+    ensures { λ r. ⌜ r ≡ length (listed o) ⌝ }
+{
+    let n = o.count;
+    if n < 128 {
+        return n;
+    }
+    128
+}
+
+// The slot listed at place k, or d.
+pub(crate) fn listed_at(o: Order, k: u32, d: u32) -> u32
+    ensures { λ r. ⌜ r ≡ getD (listed o) k d ⌝ }
+{
+    if o.count <= k {
+        return d;
+    }
+    if k < 128 {
+        let items = o.items;
+        let j = k as usize;
+        return items[j];
+    }
+    d
+}
+
+// The slot freed, with `free` after it in the free chain.
+fn freed_slot(s: Slot, free: u32) -> Slot
+    ensures { λ r. ⌜ r ≡ idle (aged (s .generation)) free ⌝ }
+{
+    Slot {
+        generation: std::num::wrapping_add_u64(s.generation, 1),
+        live: false,
+        parent: NIL,
+        first_child: NIL,
+        last_child: NIL,
+        prev_sibling: NIL,
+        next_sibling: free,
+    }
+}
+
+// Slot i freed, and now the head of the free chain.
+fn free_one(f: Freed, i: u32) -> Freed
+    ensures { λ r. ⌜ (r .slots ≡ put (f .slots) i (idle (aged (at (f .slots) i .generation)) (f .free))) × (r .free ≡ i) ⌝ }
+{
+    let slots = f.slots;
+    let s = slot_at(slots, i);
+    let gone = freed_slot(s, f.free);
+    let next = with_slot(slots, i, gone);
+    Freed {
+        slots: next,
+        free: i,
+    }
+}
+
+// The slots listed freed one after another, each put before the free chain, which starts at `free`.
+pub(crate) fn free_listed(slots: [Slot; 128], free: u32, o: Order) -> Freed
+    ensures { λ r. ⌜ (r .slots ≡ freed slots free (listed o)) × (r .free ≡ finalOr free (listed o)) ⌝ }
+{
+    let n = listed_count(o);
+    let mut out = Freed {
+        slots: slots,
+        free: free,
+    };
+    let mut k: u32 = 0;
+    while k < n {
+        let i = listed_at(o, k, 0);
+        out = free_one(out, i);
+        k += 1;
+    }
+    out
+}
+
+// The list with the slots from c on by next links after it.
+pub(crate) fn list_chain(slots: [Slot; 128], o: Order, c: u32) -> Order
+    ensures { λ r. ⌜ r ≡ addedAll o (chain 128 slots c) ⌝ }
+{
+    let mut out = o;
+    let mut i = c;
+    let mut left: u32 = 128;
+    while 0 < left {
+        if 128 <= i {
+            return out;
+        }
+        let s = slot_at(slots, i);
+        out = added(out, i);
+        i = s.next_sibling;
+        left -= 1;
+    }
+    out
+}
+
+// The list with the children of slot i after it.
+fn list_children(slots: [Slot; 128], o: Order, i: u32) -> Order
+    ensures { λ r. ⌜ r ≡ addedAll o (kidsAt slots i) ⌝ }
+{
+    let s = slot_at(slots, i);
+    list_chain(slots, o, s.first_child)
+}
+
+// The slots from c on by next links.
+pub(crate) fn chain_from(slots: [Slot; 128], c: u32) -> Order
+    ensures { λ r. ⌜ listed r ≡ chain 128 slots c ⌝ }
+{
+    let none = none_listed();
+    list_chain(slots, none, c)
+}
+
+// The children of slot i in order.
+pub(crate) fn children(slots: [Slot; 128], i: u32) -> Order
+    ensures { λ r. ⌜ listed r ≡ kidsAt slots i ⌝ }
+{
+    let s = slot_at(slots, i);
+    chain_from(slots, s.first_child)
+}
+
+// The last slot listed, or d.
+pub(crate) fn last_listed(o: Order, d: u32) -> u32
+    ensures { λ r. ⌜ r ≡ finalOr d (listed o) ⌝ }
+{
+    let n = listed_count(o);
+    if n == 0 {
+        return d;
+    }
+    listed_at(o, n - 1, d)
+}
+
+// The node and all below it, parents before children, a level at a time. The list is its own queue.
+pub(crate) fn level_order(slots: [Slot; 128], node: u32) -> Order
+    ensures { λ r. ⌜ (r .count ≤ 128) × (listed r ≡ order 128 slots (node ∷ [])) ⌝ }
+{
+    let none = none_listed();
+    let mut out = added(none, node);
+    let mut k: u32 = 0;
+    while k < 128 {
+        if out.count <= k {
+            return out;
+        }
+        let i = listed_at(out, k, 0);
+        out = list_children(slots, out, i);
+        k += 1;
+    }
+    out
+}
