@@ -131,13 +131,13 @@ unfoldable pub nextOutput : Ui → Outcome MaybeId
 nextOutput u = guarded u Absent (takeOldest u (waitingOf u))
 
 -- The fingerprint: the interaction on a fold that stands at some state.
-unfoldable pub absorb : Ui → StateHash → Outcome ℕ
-absorb u h =
-    let a = u .interaction in
-    guarded u 0 (gives u (absorbed h (
+abbrev pub interactionBytes : Interaction → List ℕ
+interactionBytes a =
     lowBytes 4 (unsignedOf (a .pointer .x)) ++ lowBytes 4 (unsignedOf (a .pointer .y)) ++ maybeBytes (a .pressed) ++ maybeBytes (a .focus)
     ++ lowBytes 8 (a .activations) ++ lowBytes 8 (a .decisions) ++ lowBytes 8 (a .overflowed) ++ lowBytes 8 (a .«edit_fold»)
-    ) .state))
+
+unfoldable pub absorb : Ui → StateHash → Outcome ℕ
+absorb u h = guarded u 0 (gives u (absorbed h (interactionBytes (u .interaction)) .state))
 
 -- The field of the node read as metres, in whole centimetres.
 unfoldable pub metres : Ui → NodeId → Outcome ℕ

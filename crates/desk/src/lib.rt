@@ -1,8 +1,27 @@
-// The desk: events, and what they do to the tree.
+// The desk: events, outputs, the fingerprint and metres by node.
+mod events;
+mod fold;
+mod outputs;
+
+ghost use mathlib.Core.Path.{_≡_};
+ghost use Rattle.field.specs.Metres.{answerOf};
+ghost use Rattle.tree.specs.Answers.{changedOf};
+ghost use Rattle.desk.specs.Answers.{takenOf, fingerprintOf};
+ghost use Rattle.desk.specs.Events as calls;
+use arithmetic::fold::StateHash;
 use field::EditOp;
+use field::NodeId;
+use field::metres::Metres;
 use text::refusal::Refusal;
+use text::refusal::Verdict;
 use tree::Ui;
+use tree::answers::Changed;
 use tree::answers::Neighbour;
+use tree::fields;
+use tree::fields::Place;
+use tree::input;
+use tree::rules;
+use tree::wearing;
 
 // What the tree hears: pixels, a press and a release of the one button, a typed character, an edit.
 pub enum UiEvent {
@@ -29,4 +48,82 @@ pub struct Taken {
 pub enum Fingerprint {
     State(u64),
     Refused(Refusal),
+}
+
+// An event, and the bits refreshed after it.
+pub fn handle(u: Ui, event: UiEvent) -> Changed
+    ensures { λ r. ⌜ changedOf r ≡ calls.handle u event ⌝ }
+{
+    if rules::broken(u) {
+        return Changed {
+            verdict: Verdict::Refused(Refusal::Broken),
+            tree: u,
+        };
+    }
+    let before = u.interaction;
+    let hit = input::hit_test(u, before.pointer);
+    let heard = events::heard(u, hit, event);
+    let after = heard.interaction;
+    let hover = input::hit_test(heard, after.pointer);
+    let next = wearing::refresh_states(heard, hover);
+    Changed {
+        verdict: Verdict::Accepted,
+        tree: next,
+    }
+}
+
+// The oldest waiting output, which no longer waits.
+pub fn next_output(u: Ui) -> Taken
+    ensures { λ r. ⌜ takenOf r ≡ calls.nextOutput u ⌝ }
+{
+    if rules::broken(u) {
+        return Taken {
+            answer: Neighbour::Refused(Refusal::Broken),
+            tree: u,
+        };
+    }
+    if u.output_count == 0 {
+        return Taken {
+            answer: Neighbour::Nobody,
+            tree: u,
+        };
+    }
+    let waiting = u.outputs;
+    let oldest = waiting[0];
+    let next = outputs::without_oldest(u);
+    Taken {
+        answer: Neighbour::Node(oldest),
+        tree: next,
+    }
+}
+
+// The fingerprint: the interaction on a fold that stands at some state.
+pub fn absorb(u: Ui, hash: StateHash) -> Fingerprint
+    ensures { λ r. ⌜ fingerprintOf r ≡ calls.absorb u hash .answer ⌝ }
+{
+    if rules::broken(u) {
+        return Fingerprint::Refused(Refusal::Broken);
+    }
+    let interaction = u.interaction;
+    let all = fold::absorb_interaction(hash, interaction);
+    Fingerprint::State(all.finish())
+}
+
+// The field of the node read as metres, in whole centimetres.
+pub fn metres(u: Ui, d: NodeId) -> Metres
+    ensures { λ r. ⌜ answerOf r ≡ calls.metres u d .answer ⌝ }
+{
+    match u.standing(d) {
+        Verdict::Refused(word) => Metres::Refused(word),
+        Verdict::Accepted => {
+            let own = u.fields;
+            match fields::field_place(own, d) {
+                Place::Nowhere => Metres::Refused(Refusal::Fieldless),
+                Place::At(i) => {
+                    let f = fields::field_at(own, i);
+                    f.metres()
+                }
+            }
+        }
+    }
 }

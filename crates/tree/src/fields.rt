@@ -1,6 +1,6 @@
 // The eight fields and their owners: whose a field is, which are free, and what a dead owner leaves.
 ghost use mathlib.Core.Path.{_≡_};
-ghost use lib.ListN.{drop, getD};
+ghost use lib.ListN.{drop, getD, set};
 ghost use mathlib.Core.Bool.{not};
 ghost use Rattle.field.specs.declared.Field.{Field};
 ghost use Rattle.field.specs.Fields.{emptyField, fieldOk};
@@ -56,6 +56,19 @@ pub fn field_at(fields: [Field; 8], i: u32) -> Field
         return fields[k];
     }
     Field::empty()
+}
+
+// The fields with another at a place; past the eight nothing is stored.
+pub fn with_field(fields: [Field; 8], i: u32, f: Field) -> [Field; 8]
+    ensures { λ r. ⌜ r ≡ set fields i f ⌝ }
+{
+    let mut out = fields;
+    if i < 8 {
+        let k = i as usize;
+        out[k] = f;
+        return out;
+    }
+    out
 }
 
 // Whether the field is nobody's.

@@ -3,12 +3,12 @@ pub mod answers;
 pub mod fields;
 pub mod input;
 mod layout;
-mod links;
+pub mod links;
 mod nodes;
-mod rules;
+pub mod rules;
 mod start;
 pub mod state;
-mod wearing;
+pub mod wearing;
 
 ghost use mathlib.Core.Path.{_≡_};
 ghost use Rattle.tree.specs.Answers.{standing, changedOf, insertedOf, rectOf, livenessOf, neighbourOf, fieldTextOf, caretAnswer};
@@ -196,7 +196,7 @@ impl Ui {
     }
 
     // Whether a call on a node is refused before anything else: the tree is broken, or the node is not live.
-    fn standing(self, d: NodeId) -> Verdict
+    pub fn standing(self, d: NodeId) -> Verdict
         ensures { λ r. ⌜ r ≡ standing self d ⌝ }
     {
         if rules::broken(self) {

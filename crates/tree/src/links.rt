@@ -77,7 +77,7 @@ pub(crate) fn id_at(slots: [Slot; 128], i: u32) -> NodeId
 }
 
 // Whether the id names a live slot below the limit.
-pub(crate) fn is_live(limit: u32, slots: [Slot; 128], d: NodeId) -> bool
+pub fn is_live(limit: u32, slots: [Slot; 128], d: NodeId) -> bool
     ensures { λ r. ⌜ r ≡ isLive limit slots d ⌝ }
 {
     let s = slot_at(slots, d.index);

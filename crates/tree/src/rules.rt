@@ -212,7 +212,7 @@ pub(crate) fn links_well(u: Ui) -> bool
 }
 
 // Whether the tree breaks a rule, the link rules or another.
-pub(crate) fn broken(u: Ui) -> bool
+pub fn broken(u: Ui) -> bool
     ensures { λ r. ⌜ r ≡ rules.broken u ⌝ }
 {
     let limits = u.limits;

@@ -366,7 +366,7 @@ fn restate(u: Ui, hover: MaybeId) -> Ui
 }
 
 // Every stated slot, then the nodes hovered, pressed and in focus wear their bits; those of the three with bits are stated.
-pub(crate) fn refresh_states(u: Ui, hover: MaybeId) -> Ui
+pub fn refresh_states(u: Ui, hover: MaybeId) -> Ui
     ensures { λ r. ⌜ r ≡ refreshed u hover ⌝ }
 {
     let worn = wear_again(u, hover);
