@@ -17,7 +17,7 @@ returns : tie.Need-returns
 returns c = search needs
 
 returns-2 : tie.Need-returns-2
-returns-2 c = let h : length (c .before .args .t1) ≡ 8 = search needs in
+returns-2 c = let h : length (c .before .args .fields) ≡ 8 = search needs in
     sym (set-out _ _ _ (omega arith))
 
 pub with-field-spec : {M : Type 1} → statement M
