@@ -107,7 +107,7 @@ unfoldable pub freeOrder : ℕ → Slots → ℕ → List ℕ
 freeOrder zero s i = []
 freeOrder (suc d) s i = i ∷ joined (freeOrder d s) (chainBack 128 s (at s i .«last_child»))
 
--- At most 128 of it, which is all where the links keep their rules.
+-- At most 128 of it. Where the slots hold a forest, as after any calls from a new tree, that is all of it.
 unfoldable pub freeing : Slots → ℕ → List ℕ
 freeing s i = take 128 (freeOrder 128 s i)
 
