@@ -42,6 +42,7 @@ use Rattle.tree.proofs.PassLaws.{placing-keeps-what-boxes-leave-alone, placing-
 use Rattle.tree.proofs.Parts.{Links, Naming, Dress, Texts, textIn}
 use Rattle.tree.proofs.ShapeParts.{links-after, links-of-shape, naming-by-shape, texts-by-shape}
 use Rattle.tree.proofs.LookParts.{style-keeps-dress, table-keeps-dress, table-dirties, pool-keeps-dress, pool-dirties, pass-keeps-dress}
+use Rattle.tree.proofs.CallParts.{an-insertion-below-the-limit-is-accepted, a-pass-that-is-due-is-made}
 use Rattle.tree.proofs.InsertParts.{insert-keeps-links, insert-keeps-dress, insert-keeps-texts, insert-keeps-the-pool, insert-keeps-the-queue, insert-keeps-naming, withChild, an-insertion-raises-one-epoch, no-node-has-the-slot-taken}
 use Rattle.tree.proofs.RemoveParts.{remove-keeps-links, remove-keeps-naming, remove-keeps-dress, remove-keeps-texts, remove-keeps-the-pool, remove-keeps-the-queue, a-removal-keeps-every-epoch}
 use Rattle.tree.proofs.NotBroken.{not-broken}
@@ -284,7 +285,8 @@ module _ (k : ℕ) (u : Ui) (h : History) (v : Inv k u h) where
       refused-step k u h v (insert d) 3 nobody (ap telling (e ∙ rw (b, same-yes (u .free) NIL f))) (rw (b, le-ltb (size (h .tree)) (h .limit) n)))
       (λ _ _ _ f s.
       let n : size (h .tree) < h .limit = let q = v .limit-is in omega arith in
-      accepted-step k u h v (insert d) (insertAt u (d .index)) (idAt (u .slots) (u .free)) (ap telling (e ∙ rw (b, same-no (u .free) NIL f)))
+      let m : size (h .tree) < limitOf u = let q = v .limit-is in omega arith in
+      accepted-step k u h v (insert d) (insertAt u (d .index)) (idAt (u .slots) (u .free)) (ap telling (an-insertion-below-the-limit-is-accepted (v .links) (sound k u h v) d b m))
       (rw (b, lt-ltb (size (h .tree)) (h .limit) n)) (insert-inv d b f)))
       (λ b. refused-step k u h v (insert d) 2 nobody (ap telling (e ∙ rw b)) (rw b))
 
@@ -584,7 +586,7 @@ module _ (k : ℕ) (u : Ui) (h : History) (v : Inv k u h) where
       ap₂ (λ (b : Bool) (z : Viewport). not b && sameView z w) (v .dirty-is) (v .view-is) in
       bool-cases (not (h .board .dirty) && sameView (h .board .viewport) w)
       (λ b. accepted-step k u h v (solve w) u nobody (silenced (guarded u 0 o) (gives u 0) (e ∙ rw (q ∙ b))) refl (rw b (inv-after k u h v)))
-      (λ b. accepted-step k u h v (solve w) (withPass u (passed (u .slots) (u .layout) w) w) nobody (silenced (guarded u 0 o) done (e ∙ rw (q ∙ b))) refl (rw b (pass-inv w)))
+      (λ b. accepted-step k u h v (solve w) (withPass u (passed (u .slots) (u .layout) w) w) nobody (silenced (guarded u 0 o) done (a-pass-that-is-due-is-made (v .links) (sound k u h v) w (q ∙ b))) refl (rw b (pass-inv w)))
 
   -- ---- every call
 
