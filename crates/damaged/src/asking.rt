@@ -1,6 +1,7 @@
 // Every call of document 01 that takes a tree, asked of one tree, and what its answer comes to.
 use crate::good;
 use crate::same;
+use crate::show::put;
 use arithmetic::fold::StateHash;
 use desk::Fingerprint;
 use desk::UiEvent;
@@ -17,28 +18,6 @@ use tree::answers::Neighbour;
 use tree::answers::NewId;
 use tree::answers::NodeRect;
 use tree::answers::TextLength;
-
-// The calls.
-pub enum Call {
-    Insert,
-    Remove,
-    SetStyle,
-    SetStateTable,
-    MakeField,
-    FieldText,
-    FieldCursor,
-    Metres,
-    Rect,
-    IsLive,
-    FirstChild,
-    NextSibling,
-    SetPatchPool,
-    Solve,
-    Move,
-    Key,
-    NextOutput,
-    Absorb,
-}
 
 // An answer: its number, and whether the tree and the bytes beside it are what a refusal leaves, the same tree and zeros.
 pub struct Answer {
@@ -172,26 +151,54 @@ fn absorb(u: Ui) -> Answer {
     }
 }
 
-// One call; those that name a node name d.
-pub fn ask(u: Ui, call: Call, d: NodeId) -> Answer {
+// How many calls there are; the first twelve name a node.
+pub const CALLS: u32 = 18;
+
+pub const NAMING: u32 = 12;
+
+// One call, by its number; those that name a node name d.
+pub fn ask(u: Ui, call: u32, d: NodeId) -> Answer {
     match call {
-        Call::Insert => insert(u, d),
-        Call::Remove => remove(u, d),
-        Call::SetStyle => set_style(u, d),
-        Call::SetStateTable => set_state_table(u, d),
-        Call::MakeField => make_field(u, d),
-        Call::FieldText => field_text(u, d),
-        Call::FieldCursor => field_cursor(u, d),
-        Call::Metres => metres(u, d),
-        Call::Rect => rect(u, d),
-        Call::IsLive => is_live(u, d),
-        Call::FirstChild => neighbour(u.first_child(d)),
-        Call::NextSibling => neighbour(u.next_sibling(d)),
-        Call::SetPatchPool => set_patch_pool(u),
-        Call::Solve => solve(u),
-        Call::Move => handle(u, UiEvent::PointerMoved { x: 1, y: 1 }),
-        Call::Key => handle(u, UiEvent::TextEntered { ch: 65 }),
-        Call::NextOutput => next_output(u),
-        Call::Absorb => absorb(u),
+        0 => insert(u, d),
+        1 => remove(u, d),
+        2 => set_style(u, d),
+        3 => set_state_table(u, d),
+        4 => make_field(u, d),
+        5 => field_text(u, d),
+        6 => field_cursor(u, d),
+        7 => metres(u, d),
+        8 => rect(u, d),
+        9 => is_live(u, d),
+        10 => neighbour(u.first_child(d)),
+        11 => neighbour(u.next_sibling(d)),
+        12 => set_patch_pool(u),
+        13 => solve(u),
+        14 => handle(u, UiEvent::PointerMoved { x: 1, y: 1 }),
+        15 => handle(u, UiEvent::TextEntered { ch: 65 }),
+        16 => next_output(u),
+        _ => absorb(u),
+    }
+}
+
+pub fn put_call(call: u32) {
+    match call {
+        0 => put(b"insert"),
+        1 => put(b"remove"),
+        2 => put(b"set_style"),
+        3 => put(b"set_state_table"),
+        4 => put(b"make_field"),
+        5 => put(b"field_text"),
+        6 => put(b"field_cursor"),
+        7 => put(b"metres"),
+        8 => put(b"rect"),
+        9 => put(b"is_live"),
+        10 => put(b"first_child"),
+        11 => put(b"next_sibling"),
+        12 => put(b"set_patch_pool"),
+        13 => put(b"solve"),
+        14 => put(b"handle (a move)"),
+        15 => put(b"handle (a key)"),
+        16 => put(b"next_output"),
+        _ => put(b"absorb"),
     }
 }

@@ -1,7 +1,6 @@
 // The rows: a link rule, a tree that breaks it alone, and a tree next to that which breaks nothing.
 use crate::asking;
 use crate::asking::Answer;
-use crate::asking::Call;
 use crate::damage;
 use crate::damage::Dress;
 use crate::damage::Edits;
@@ -10,6 +9,7 @@ use crate::damage::Mark;
 use crate::damage::Part;
 use crate::good;
 use crate::good::Base;
+use crate::same;
 use crate::show::put;
 use crate::show::put_number;
 use field::NodeId;
@@ -18,57 +18,10 @@ use tree::Ui;
 // No neighbour.
 const NIL: u32 = 4294967295;
 
-// The calls by number; the first twelve name a node.
-fn call(k: u32) -> Call {
-    match k {
-        0 => Call::Insert,
-        1 => Call::Remove,
-        2 => Call::SetStyle,
-        3 => Call::SetStateTable,
-        4 => Call::MakeField,
-        5 => Call::FieldText,
-        6 => Call::FieldCursor,
-        7 => Call::Metres,
-        8 => Call::Rect,
-        9 => Call::IsLive,
-        10 => Call::FirstChild,
-        11 => Call::NextSibling,
-        12 => Call::SetPatchPool,
-        13 => Call::Solve,
-        14 => Call::Move,
-        15 => Call::Key,
-        16 => Call::NextOutput,
-        _ => Call::Absorb,
-    }
-}
-
-fn put_call(k: u32) {
-    match k {
-        0 => put(b"insert"),
-        1 => put(b"remove"),
-        2 => put(b"set_style"),
-        3 => put(b"set_state_table"),
-        4 => put(b"make_field"),
-        5 => put(b"field_text"),
-        6 => put(b"field_cursor"),
-        7 => put(b"metres"),
-        8 => put(b"rect"),
-        9 => put(b"is_live"),
-        10 => put(b"first_child"),
-        11 => put(b"next_sibling"),
-        12 => put(b"set_patch_pool"),
-        13 => put(b"solve"),
-        14 => put(b"handle (a move)"),
-        15 => put(b"handle (a key)"),
-        16 => put(b"next_output"),
-        _ => put(b"absorb"),
-    }
-}
-
 // What went wrong at a call.
-fn put_wrong(k: u32, answer: Answer) {
+fn put_wrong(call: u32, answer: Answer) {
     put(b" ");
-    put_call(k);
+    asking::put_call(call);
     put(b" answers ");
     put_number(answer.number as u64);
     if (answer.number == 1) & !answer.untouched {
@@ -78,43 +31,41 @@ fn put_wrong(k: u32, answer: Answer) {
 }
 
 // Every call is asked with a node that lives in the good tree, and those that name one again with a node that never was.
-const CALLS: u32 = 18;
-
 const ASKED: u32 = 30;
 
-fn number_of(k: u32) -> u32 {
-    if k < CALLS {
+fn call_of(k: u32) -> u32 {
+    if k < asking::CALLS {
         return k;
     }
-    k - CALLS
+    k - asking::CALLS
 }
 
-fn named(k: u32, here: u32) -> NodeId {
-    if k < CALLS {
+fn node_of(k: u32, here: u32) -> NodeId {
+    if k < asking::CALLS {
         return good::id(here);
     }
     good::id(NIL)
 }
 
-// Whether call c is answered as it must be: on a broken tree by 1, with everything as it was; on another by no 1, and accepted where it
+// Whether a call is answered as it must be: on a broken tree by 1, with everything as it was; on another by no 1, and accepted where it
 // names no node.
-fn as_due(broken: bool, c: u32, answer: Answer) -> bool {
+fn as_due(broken: bool, call: u32, answer: Answer) -> bool {
     if broken {
         return (answer.number == 1) & answer.untouched;
     }
-    (answer.number != 1) & ((c < 12) | (answer.number == 0))
+    (answer.number != 1) & ((call < asking::NAMING) | (answer.number == 0))
 }
 
 // How many of the calls are; the others are written.
 fn answers_due(u: Ui, here: u32, broken: bool) -> u32 {
     let mut due: u32 = 0;
     for k in 0..ASKED {
-        let c = number_of(k);
-        let answer = asking::ask(u, call(c), named(k, here));
-        if as_due(broken, c, answer) {
+        let call = call_of(k);
+        let answer = asking::ask(u, call, node_of(k, here));
+        if as_due(broken, call, answer) {
             due += 1;
         } else {
-            put_wrong(c, answer);
+            put_wrong(call, answer);
         }
     }
     due
@@ -124,10 +75,19 @@ fn damaged(base: Base, edits: Edits) -> Ui {
     damage::done(good::tree(base), edits)
 }
 
+// Whether the comparison sees the damage; if not, an unchanged tree would say nothing.
+fn seen(base: Base, edits: Edits) -> bool {
+    let u = good::tree(base);
+    !same::same(u, damage::done(u, edits))
+}
+
 // One row. `here` is a node that lives in both trees.
 fn row(name: &[u8], base: Base, here: u32, bad: Edits, near: Edits) {
     put(name);
     put(b":");
+    if !seen(base, bad) {
+        put(b" no damage seen;");
+    }
     let refused = answers_due(damaged(base, bad), here, true);
     if refused == ASKED {
         put(b" ");

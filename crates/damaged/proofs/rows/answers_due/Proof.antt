@@ -15,14 +15,11 @@ abbrev μ-loop : tie.MeasureT-loop
 loop-holds : tie.Need-loop-holds Inv-loop μ-loop
 loop-holds c = search needs
 
-number-of-requires : tie.Need-number-of-requires Inv-loop μ-loop
-number-of-requires c κs = search needs
+call-of-requires : tie.Need-call-of-requires Inv-loop μ-loop
+call-of-requires c κs = search needs
 
-call-requires : tie.Need-call-requires Inv-loop μ-loop
-call-requires c κs = search needs
-
-named-requires : tie.Need-named-requires Inv-loop μ-loop
-named-requires c κs = search needs
+node-of-requires : tie.Need-node-of-requires Inv-loop μ-loop
+node-of-requires c κs = search needs
 
 ask-requires : tie.Need-ask-requires Inv-loop μ-loop
 ask-requires c κs = search needs
@@ -55,9 +52,8 @@ answers-due-spec =
     Inv-loop
     μ-loop
     loop-holds
-    number-of-requires
-    call-requires
-    named-requires
+    call-of-requires
+    node-of-requires
     ask-requires
     as-due-requires
     add-due
