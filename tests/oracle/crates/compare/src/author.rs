@@ -12,18 +12,23 @@ pub struct Author {
     pub sizes: Sizes,
     pub viewport: (i64, i64),
     lines: Vec<String>,
+    /// How many of these lines are calls, answered by more than `?`, and how many the script may have.
+    calls: usize,
+    most: usize,
     runner: Runner,
     /// Every id that an insert ever gave, in this tree or an earlier one.
     given: Vec<NodeId>,
 }
 
 impl Author {
-    pub fn new(rng: Rng, sizes: Sizes) -> Self {
+    pub fn new(rng: Rng, sizes: Sizes, most: usize) -> Self {
         Self {
             rng,
             sizes,
             viewport: (320 * PX, 200 * PX),
             lines: Vec::new(),
+            calls: 0,
+            most,
             runner: Runner::default(),
             given: Vec::new(),
         }
@@ -41,15 +46,32 @@ impl Author {
         self.lines.len()
     }
 
+    pub fn calls(&self) -> usize {
+        self.calls
+    }
+
     pub fn finish(self) -> Vec<String> {
         self.lines
     }
 
     /// Writes one line and runs it.
     pub fn call(&mut self, line: impl Into<String>) {
-        let line = line.into();
-        self.runner.line(format!("{line}\n").as_bytes());
-        self.lines.push(line);
+        self.step(line.into());
+    }
+
+    /// Runs a line and writes it, unless the script has all its calls: a story may end later than it.
+    fn step(&mut self, line: String) -> Step {
+        let step = self.runner.line(format!("{line}\n").as_bytes());
+        if self.calls < self.most {
+            self.calls += usize::from(matches!(&step, Step::Answer(answer) if answer != "?"));
+            self.lines.push(line);
+        }
+        step
+    }
+
+    /// Lines after the last call, whatever the number of calls.
+    pub fn end_with(&mut self, lines: [String; 2]) {
+        self.lines.extend(lines);
     }
 
     /// A call whose words end with an id.
@@ -65,11 +87,9 @@ impl Author {
 
     /// An insert, and the id that it gave.
     pub fn insert(&mut self, parent: NodeId) -> Option<NodeId> {
-        let line = format!("insert {}", id(parent));
-        let Step::Answer(answer) = self.runner.line(format!("{line}\n").as_bytes()) else {
+        let Step::Answer(answer) = self.step(format!("insert {}", id(parent))) else {
             return None;
         };
-        self.lines.push(line);
         let mut numbers = answer.strip_prefix("0 ")?.split(' ');
         let index = numbers.next()?.parse().ok()?;
         let generation = numbers.next()?.parse().ok()?;

@@ -1,10 +1,10 @@
 //! Compares a console with the oracle over random scripts.
 //!
-//!     compare run CONSOLE N SEED FILE   N scripts; stops at the first difference, cut down, kept in FILE
-//!     compare tell CONSOLE N SEED       the first scripts that show a faulty console
-//!     compare script SEED NUMBER        one script, as `run` uses it
+//!     compare run FILE CONSOLE N SEED [CALLS]   N scripts; stops at the first difference, cut down, kept in FILE
+//!     compare tell CONSOLE N SEED               the first scripts that show a faulty console
+//!     compare script SEED NUMBER [CALLS]        one script, as `run` uses it
 //!
-//! PATIENCE says after how many seconds a console hangs.
+//! A script has CALLS calls, or about 230 where nothing is said. PATIENCE says after how many seconds a console hangs.
 
 mod author;
 mod console;
@@ -34,19 +34,18 @@ fn main() -> ExitCode {
     let words: Vec<_> = std::env::args().skip(1).collect();
     let words: Vec<_> = words.iter().map(String::as_str).collect();
     let done = match words[..] {
-        ["run", console, count, seed, file] => {
-            numbers(count, seed).and_then(|(count, seed)| run(console, count, seed, file))
+        ["run", file, console, count, seed, ref calls @ ..] if calls.len() <= 1 => {
+            numbers(count, seed).and_then(|(count, seed)| run(console, count, seed, length(calls)?, file))
         }
         ["tell", console, count, seed] => {
             numbers(count, seed).and_then(|(count, seed)| tell(console, count, seed))
         }
-        ["script", seed, number] => {
-            numbers(seed, number).and_then(|(seed, number)| print_script(seed, number))
+        ["script", seed, number, ref calls @ ..] if calls.len() <= 1 => {
+            numbers(seed, number).and_then(|(seed, number)| print_script(seed, number, length(calls)?))
         }
-        _ => Err(
-            "usage: compare run CONSOLE N SEED FILE, compare tell CONSOLE N SEED, compare script SEED NUMBER"
-                .to_string(),
-        ),
+        _ => Err("usage: compare run FILE CONSOLE N SEED [CALLS], compare tell CONSOLE N SEED, \
+            compare script SEED NUMBER [CALLS]"
+            .to_string()),
     };
     match done {
         Ok(true) => ExitCode::SUCCESS,
@@ -58,26 +57,34 @@ fn main() -> ExitCode {
     }
 }
 
+fn number<N: std::str::FromStr>(word: &str) -> Result<N, String> {
+    word.parse().map_err(|_| format!("`{word}` is no number"))
+}
+
 fn numbers(first: &str, second: &str) -> Result<(u64, u64), String> {
-    let number = |word: &str| word.parse().map_err(|_| format!("`{word}` is no number"));
     Ok((number(first)?, number(second)?))
 }
 
-fn print_script(seed: u64, number: u64) -> Result<bool, String> {
-    let lines = with_states(&generate::script(seed, number));
+/// How many calls a script has, where a word says so.
+fn length(word: &[&str]) -> Result<Option<usize>, String> {
+    word.first().map(|word| number(word)).transpose()
+}
+
+fn print_script(seed: u64, number: u64, calls: Option<usize>) -> Result<bool, String> {
+    let lines = with_states(&generate::script(seed, number, calls));
     // Nobody may be reading any more, as with `head`.
     Ok(writeln!(std::io::stdout(), "{}", lines.join("\n")).is_ok())
 }
 
 /// Whether the console answers all scripts as the oracle does.
-fn run(console: &str, count: u64, seed: u64, file: &str) -> Result<bool, String> {
+fn run(console: &str, count: u64, seed: u64, calls: Option<usize>, file: &str) -> Result<bool, String> {
     if count == 0 {
         return Err("no scripts show nothing".to_string());
     }
     let subject = Subject { path: Path::new(console), patience: patience() };
-    let mut calls = 0;
+    let mut total = 0;
     for number in 1..=count {
-        let script = generate::script(seed, number);
+        let script = generate::script(seed, number, calls);
         if let Some(difference) = subject.first_difference(&with_states(&script))? {
             println!("script {number} of seed {seed} differs at its call {}:", difference.line / 2 + 1);
             show(&difference);
@@ -85,9 +92,10 @@ fn run(console: &str, count: u64, seed: u64, file: &str) -> Result<bool, String>
             let subject = Subject { patience, ..subject };
             return cut_down(&subject, &script, file).map(|()| false);
         }
-        calls += script.len();
+        total += calls.unwrap_or(script.len());
     }
-    println!("{count} scripts of seed {seed}, {calls} calls, `state` after each: no difference");
+    let each = calls.map_or(String::new(), |calls| format!(" ({calls} each)"));
+    println!("{count} scripts of seed {seed}, {total} calls{each}, `state` after each: no difference");
     Ok(true)
 }
 
@@ -132,7 +140,7 @@ fn tell(console: &str, count: u64, seed: u64) -> Result<bool, String> {
     let subject = Subject { path: Path::new(console), patience: LITTLE_PATIENCE };
     let mut any = None;
     for number in 1..=count {
-        let lines = with_states(&generate::script(seed, number));
+        let lines = with_states(&generate::script(seed, number, None));
         let Some(difference) = subject.first_difference(&lines)? else { continue };
         any = any.or(Some((number, difference.by_state())));
         if subject.first_in_answers(&lines)?.is_some() {

@@ -8,7 +8,7 @@ mod pointer;
 mod states;
 mod tree;
 
-use crate::author::Author;
+use crate::author::{Author, id};
 
 type Story = fn(&mut Author);
 
@@ -66,27 +66,29 @@ pub fn opening(author: &mut Author) {
     tree::tidy(author);
 }
 
-/// The end: everything that an answer can show is read.
+/// The end: everything that an answer can show is read. At times a line that is too long ends the run.
 pub fn closing(author: &mut Author) {
-    for node in author.live().into_iter().take(30) {
-        for word in ["rect", "first", "next"] {
-            author.call_on(word, node);
-        }
-        if author.ui().field_text(node).is_some() {
-            for word in ["text", "cursor", "metres"] {
-                author.call_on(word, node);
-            }
-        }
-    }
-    for node in author.given().into_iter().take(20) {
-        author.call_on("live", node);
-    }
-    for word in ["focus", "pressed", "absorb cbf29ce484222325", "output", "output", "output"] {
-        author.call(word);
+    for line in last_reads(author) {
+        author.call(line);
     }
     if author.rng.chance(9) {
         let word = author.rng.pick(&["#", "new 1 ", "x"]);
-        author.call(word.repeat(1_025).split_at(1_025).0);
-        author.call("new 1");
+        author.end_with([word.repeat(1_025).split_at(1_025).0.to_string(), "new 1".to_string()]);
     }
+}
+
+/// The reads that end a script.
+pub fn last_reads(author: &Author) -> Vec<String> {
+    let mut lines = Vec::new();
+    for node in author.live().into_iter().take(30) {
+        lines.extend(["rect", "first", "next"].map(|word| format!("{word} {}", id(node))));
+        if author.ui().field_text(node).is_some() {
+            lines.extend(["text", "cursor", "metres"].map(|word| format!("{word} {}", id(node))));
+        }
+    }
+    lines.extend(author.given().into_iter().take(20).map(|node| format!("live {}", id(node))));
+    lines.extend(
+        ["focus", "pressed", "absorb cbf29ce484222325", "output", "output", "output"].map(str::to_string),
+    );
+    lines
 }
