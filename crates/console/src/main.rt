@@ -1,0 +1,79 @@
+// The console: a script on standard input, a line on standard output for each call.
+mod calls;
+mod digest;
+mod input;
+mod line;
+mod styles;
+mod turn;
+mod waiting;
+mod words;
+
+use calls::Word;
+use input::Pipes;
+use line::Line;
+use tree::StatePatch;
+use tree::Ui;
+use tree::UiLimits;
+use waiting::Waiting;
+
+fn main() {
+    let first = Ui::new(UiLimits { nodes: 1 });
+    let mut tree = first.tree;
+    let mut waiting = Waiting::none();
+    let mut text = [0u8; 1025];
+    let mut chunk = [0u8; 4096];
+    let mut out = [0u8; 4096];
+    let mut pipes = Pipes::new();
+    let mut read: usize = 0;
+    while read <= 1048576 {
+        let taken = input::next_line(&mut text, &mut chunk, &mut out, pipes);
+        pipes = taken.pipes;
+        let n = taken.len;
+        read += taken.taken;
+        if taken.taken == 0 {
+            break;
+        }
+        if (1024 < n) | (1048576 < read) {
+            pipes.held = input::put(&mut out, pipes.held, Line::malformed());
+            break;
+        }
+        if n == 0 {
+            continue;
+        }
+        if text[0] == 35 {
+            continue;
+        }
+        let call = calls::read(&text[..n]);
+        let word = call.word;
+        match word {
+            Word::Patch(touches) => {
+                let style = call.style;
+                if waiting.count == 65 {
+                    pipes.held = input::put(&mut out, pipes.held, Line::malformed());
+                } else {
+                    waiting = waiting.with(StatePatch {
+                        style: style,
+                        touches_layout: touches,
+                    });
+                    let count = waiting.count as u64;
+                    pipes.held = input::put(&mut out, pipes.held, Line::accepted().number(count));
+                }
+            }
+            Word::Pool => {
+                let patches = waiting.patches;
+                let c = tree.set_patch_pool(patches, waiting.count);
+                let v = c.verdict;
+                tree = c.tree;
+                waiting.count = 0;
+                pipes.held = input::put(&mut out, pipes.held, turn::plain(v));
+            }
+            _ => {
+                let t = turn::turn(tree, call);
+                tree = t.tree;
+                let answer = t.line;
+                pipes.held = input::put(&mut out, pipes.held, answer);
+            }
+        }
+    }
+    input::flush(&mut out, pipes.held);
+}
