@@ -38,6 +38,16 @@ pub enum Word {
     State,
 }
 
+// What a call does: it changes the tree, or reads it, or gathers a patch.
+pub enum Kind {
+    Insertion(NodeId),
+    Output,
+    Change,
+    Event(UiEvent),
+    Reading,
+    Patch(bool),
+}
+
 // A call: the style and the table stand beside the word, and mean something where it needs them.
 pub struct Call {
     pub word: Word,
@@ -333,5 +343,18 @@ pub fn read(s: &[u8]) -> Call {
         21 => patch_of(s),
         22 => style_of(s),
         _ => bare(Word::Malformed),
+    }
+}
+
+// What a word does.
+pub fn kind_of(word: Word) -> Kind {
+    match word {
+        Word::Insert(d) => Kind::Insertion(d),
+        Word::Output => Kind::Output,
+        Word::Patch(touches) => Kind::Patch(touches),
+        Word::New(_) | Word::Remove(_) | Word::Style(_) | Word::Pool => Kind::Change,
+        Word::Event(e) => Kind::Event(e),
+        Word::Table(_) | Word::Field(_) | Word::Solve(_) => Kind::Change,
+        _ => Kind::Reading,
     }
 }

@@ -8,6 +8,7 @@ mod turn;
 mod waiting;
 mod words;
 
+use calls::Kind;
 use calls::Word;
 use input::Pipes;
 use line::Line;
@@ -17,8 +18,7 @@ use tree::UiLimits;
 use waiting::Waiting;
 
 fn main() {
-    let first = Ui::new(UiLimits { nodes: 1 });
-    let mut tree = first.tree;
+    let mut c = Ui::new(UiLimits { nodes: 1 });
     let mut waiting = Waiting::none();
     let mut text = [0u8; 1025];
     let mut chunk = [0u8; 4096];
@@ -45,8 +45,8 @@ fn main() {
         }
         let call = calls::read(&text[..n]);
         let word = call.word;
-        match word {
-            Word::Patch(touches) => {
+        match calls::kind_of(word) {
+            Kind::Patch(touches) => {
                 let style = call.style;
                 if waiting.count == 65 {
                     pipes.held = input::put(&mut out, pipes.held, Line::malformed());
@@ -59,19 +59,23 @@ fn main() {
                     pipes.held = input::put(&mut out, pipes.held, Line::accepted().number(count));
                 }
             }
-            Word::Pool => {
-                let patches = waiting.patches;
-                let c = tree.set_patch_pool(patches, waiting.count);
+            Kind::Reading => {
+                pipes.held = input::put(&mut out, pipes.held, turn::asked(c.tree, word));
+            }
+            Kind::Event(e) => {
+                c = desk::handle(c.tree, e);
                 let v = c.verdict;
-                tree = c.tree;
-                waiting.count = 0;
+                pipes.held = input::put(&mut out, pipes.held, turn::plain(v));
+            }
+            Kind::Change => {
+                c = turn::changed(c.tree, call, waiting);
+                if let Word::Pool = word { waiting.count = 0; }
+                let v = c.verdict;
                 pipes.held = input::put(&mut out, pipes.held, turn::plain(v));
             }
             _ => {
-                let t = turn::turn(tree, call);
-                tree = t.tree;
-                let answer = t.line;
-                pipes.held = input::put(&mut out, pipes.held, answer);
+                pipes.held = input::put(&mut out, pipes.held, turn::asked(c.tree, word));
+                c = turn::changed(c.tree, call, waiting);
             }
         }
     }

@@ -3,6 +3,7 @@ use crate::calls::Call;
 use crate::calls::Word;
 use crate::digest;
 use crate::line::Line;
+use crate::waiting::Waiting;
 use crate::words;
 use arithmetic::fold::StateHash;
 use desk::Fingerprint;
@@ -115,7 +116,7 @@ fn stored(id: MaybeId) -> Line {
 }
 
 // The calls that leave the tree as it is.
-fn asked(tree: Ui, word: Word) -> Line {
+pub fn asked(tree: Ui, word: Word) -> Line {
     match word {
         Word::Text(d) => text(tree, d),
         Word::Cursor(d) => caret(tree.field_cursor(d)),
@@ -135,61 +136,60 @@ fn asked(tree: Ui, word: Word) -> Line {
             let i = tree.interaction;
             stored(i.pressed)
         }
+        Word::Insert(d) => insertion(tree, d),
+        Word::Output => output(tree),
         _ => Line::malformed(),
     }
 }
 
-fn changed(c: Changed) -> Turn {
-    let v = c.verdict;
-    let tree = c.tree;
-    Turn {
-        line: plain(v),
-        tree: tree,
-    }
-}
-
-fn inserted(tree: Ui, d: NodeId) -> Turn {
+// The answer of an insertion; `inserted` has the tree.
+fn insertion(tree: Ui, d: NodeId) -> Line {
     let i = tree.insert(d);
     let a = i.answer;
+    new_id(a)
+}
+
+fn inserted(tree: Ui, d: NodeId) -> Changed {
+    let i = tree.insert(d);
     let next = i.tree;
-    Turn {
-        line: new_id(a),
+    Changed {
+        verdict: Verdict::Accepted,
         tree: next,
     }
 }
 
-fn output(tree: Ui) -> Turn {
+// The answer of a taken output; `without_output` has the tree.
+fn output(tree: Ui) -> Line {
     let t = desk::next_output(tree);
     let a = t.answer;
+    neighbour(a)
+}
+
+fn without_output(tree: Ui) -> Changed {
+    let t = desk::next_output(tree);
     let next = t.tree;
-    Turn {
-        line: neighbour(a),
+    Changed {
+        verdict: Verdict::Accepted,
         tree: next,
     }
 }
 
-// Any call but `patch` and `pool`.
-pub fn turn(tree: Ui, call: Call) -> Turn {
+// The tree after a call, and whether it was accepted.
+pub fn changed(tree: Ui, call: Call, waiting: Waiting) -> Changed {
     let word = call.word;
+    let style = call.style;
+    let table = call.table;
+    let patches = waiting.patches;
     match word {
-        Word::New(limit) => changed(Ui::new(UiLimits { nodes: limit })),
-        Word::Insert(d) => inserted(tree, d),
-        Word::Remove(d) => changed(tree.remove(d)),
-        Word::Style(d) => {
-            let style = call.style;
-            changed(tree.set_style(d, style))
-        }
-        Word::Table(d) => {
-            let table = call.table;
-            changed(tree.set_state_table(d, table))
-        }
-        Word::Field(d) => changed(tree.make_field(d)),
-        Word::Solve(view) => changed(tree.solve(view)),
-        Word::Event(e) => changed(desk::handle(tree, e)),
-        Word::Output => output(tree),
-        _ => Turn {
-            line: asked(tree, word),
-            tree: tree,
-        },
+        Word::New(limit) => { return Ui::new(UiLimits { nodes: limit }); }
+        Word::Insert(d) => { return inserted(tree, d); }
+        Word::Remove(d) => { return tree.remove(d); }
+        Word::Style(d) => { return tree.set_style(d, style); }
+        Word::Table(d) => { return tree.set_state_table(d, table); }
+        Word::Field(d) => { return tree.make_field(d); }
+        Word::Solve(view) => { return tree.solve(view); }
+        Word::Event(e) => { return desk::handle(tree, e); }
+        Word::Output => { return without_output(tree); }
+        _ => { return tree.set_patch_pool(patches, waiting.count); }
     }
 }
