@@ -38,13 +38,17 @@ pub enum Word {
     State,
 }
 
-// What a call does: it changes the tree, or reads it, or gathers a patch.
+// What a call does to the tree.
 pub enum Kind {
-    Insertion(NodeId),
-    Output,
-    Change,
-    Event(UiEvent),
+    // It reads.
     Reading,
+    // It changes the tree, and answers whether it was accepted.
+    Change,
+    // The same, of an event.
+    Event(UiEvent),
+    // It changes the tree, and answers more.
+    Both,
+    // It is no call of the tree: one more patch waits.
     Patch(bool),
 }
 
@@ -73,14 +77,14 @@ fn bare(word: Word) -> Call {
     }
 }
 
-// ID: two words from word k on.
+// ID: two words.
 fn id(first: &[u8], second: &[u8]) -> IdRead {
-    let index = words::number(first, 4294967295);
+    let index = words::small(first);
     let generation = words::number(second, 18446744073709551615);
     IdRead {
         ok: index.ok & generation.ok,
         id: NodeId {
-            index: index.value as u32,
+            index: index.value,
             generation: generation.value,
         },
     }
@@ -140,17 +144,17 @@ fn edit_of(w: &[u8]) -> Word {
 }
 
 fn new_of(w: &[u8]) -> Word {
-    let n = words::number(w, 4294967295);
+    let n = words::small(w);
     if n.ok {
-        return Word::New(n.value as u32);
+        return Word::New(n.value);
     }
     Word::Malformed
 }
 
 fn char_of(w: &[u8]) -> Word {
-    let n = words::number(w, 4294967295);
+    let n = words::small(w);
     if n.ok {
-        return Word::Event(UiEvent::TextEntered { ch: n.value as u32 });
+        return Word::Event(UiEvent::TextEntered { ch: n.value });
     }
     Word::Malformed
 }
@@ -167,7 +171,7 @@ fn measure_of(w: &[u8]) -> Word {
     let h = words::hex(w);
     if h.ok {
         let bytes = h.bytes;
-        let n = words::at_most(h.len, 512);
+        let n = io::count(words::at_most(h.len, 512) as isize, &bytes);
         return Word::Measure(text::measure(&bytes[..n]));
     }
     Word::Malformed
@@ -267,7 +271,8 @@ fn with_two(w: &[u8], a: &[u8], b: &[u8]) -> Word {
     }
     let node = id(a, b);
     if node.ok {
-        return changing(w, node.id);
+        let d = node.id;
+        return changing(w, d);
     }
     Word::Malformed
 }
@@ -292,9 +297,10 @@ fn table_of(s: &[u8]) -> Call {
     let node = id(word(s, 1), word(s, 2));
     let read = entries(words::rest(s, 3));
     if same(word(s, 0), b"table") & node.ok & read.ok {
+        let d = node.id;
         let table = read.table;
         return Call {
-            word: Word::Table(node.id),
+            word: Word::Table(d),
             style: styles::none(),
             table: table,
         };
@@ -322,9 +328,10 @@ fn style_of(s: &[u8]) -> Call {
     let node = id(word(s, 1), word(s, 2));
     let read = styles::read(words::rest(s, 3));
     if same(word(s, 0), b"style") & node.ok & read.ok {
+        let d = node.id;
         let style = read.style;
         return Call {
-            word: Word::Style(node.id),
+            word: Word::Style(d),
             style: style,
             table: [0u16; 16],
         };
@@ -346,15 +353,20 @@ pub fn read(s: &[u8]) -> Call {
     }
 }
 
-// What a word does.
+// What a word does to the tree.
 pub fn kind_of(word: Word) -> Kind {
     match word {
-        Word::Insert(d) => Kind::Insertion(d),
-        Word::Output => Kind::Output,
+        Word::Insert(_) => Kind::Both,
+        Word::Output => Kind::Both,
         Word::Patch(touches) => Kind::Patch(touches),
-        Word::New(_) | Word::Remove(_) | Word::Style(_) | Word::Pool => Kind::Change,
         Word::Event(e) => Kind::Event(e),
-        Word::Table(_) | Word::Field(_) | Word::Solve(_) => Kind::Change,
+        Word::New(_) => Kind::Change,
+        Word::Remove(_) => Kind::Change,
+        Word::Style(_) => Kind::Change,
+        Word::Table(_) => Kind::Change,
+        Word::Field(_) => Kind::Change,
+        Word::Solve(_) => Kind::Change,
+        Word::Pool => Kind::Change,
         _ => Kind::Reading,
     }
 }

@@ -67,15 +67,24 @@ fn edges(h: StateHash, e: Edges) -> StateHash {
 }
 
 fn style(h: StateHash, s: Style) -> StateHash {
-    let way = h.absorb_u32(direction(s.direction));
-    let sizes = size(size(way, s.width), s.height);
+    let way = s.direction;
+    let width = s.width;
+    let height = s.height;
+    let justify = s.justify;
+    let cross = s.align_cross;
+    let first = h.absorb_u32(direction(way));
+    let sizes = size(size(first, width), height);
     let margin = s.margin;
     let padding = s.padding;
     let spaces = raw(edges(edges(sizes, margin), padding), s.gap);
-    let along = spaces.absorb_u32(s.grow).absorb_u32(align(s.justify));
-    let across = along.absorb_u32(align(s.align_cross));
-    let background = s.background;
-    across.absorb_bytes(&background)
+    let along = spaces.absorb_u32(s.grow).absorb_u32(align(justify));
+    let across = along.absorb_u32(align(cross));
+    let b = s.background;
+    across
+        .absorb_byte(b[0])
+        .absorb_byte(b[1])
+        .absorb_byte(b[2])
+        .absorb_byte(b[3])
 }
 
 fn rect(h: StateHash, r: Rect) -> StateHash {
@@ -86,7 +95,9 @@ fn rect(h: StateHash, r: Rect) -> StateHash {
 fn counts(h: StateHash, u: Ui) -> StateHash {
     let limits = u.limits;
     let view = u.solved_for;
-    let slots = h.absorb_u32(limits.nodes).absorb_u32(u.live).absorb_u32(u.free);
+    let slots = h.absorb_u32(limits.nodes)
+        .absorb_u32(u.live)
+        .absorb_u32(u.free);
     let dirty = slots.absorb_u32(flag(u.dirty));
     raw(raw(dirty, view.width), view.height).absorb_u64(u.layout_passes)
 }
@@ -94,8 +105,11 @@ fn counts(h: StateHash, u: Ui) -> StateHash {
 // Paragraph 2: what the tree remembers between events.
 fn interaction(h: StateHash, i: Interaction) -> StateHash {
     let at = i.pointer;
-    let pointer = h.absorb_u32(scalar::cast_unsigned(at.x)).absorb_u32(scalar::cast_unsigned(at.y));
-    let ids = maybe(maybe(pointer, i.pressed), i.focus);
+    let pointer = h.absorb_u32(scalar::cast_unsigned(at.x))
+        .absorb_u32(scalar::cast_unsigned(at.y));
+    let pressed = i.pressed;
+    let focus = i.focus;
+    let ids = maybe(maybe(pointer, pressed), focus);
     let sums = ids.absorb_u64(i.activations).absorb_u64(i.decisions);
     sums.absorb_u64(i.overflowed).absorb_u64(i.edit_fold)
 }
@@ -137,14 +151,19 @@ fn stated(h: StateHash, all: [u32; 3], count: u32) -> StateHash {
 
 fn links(h: StateHash, s: Slot) -> StateHash {
     let life = h.absorb_u64(s.generation).absorb_u32(flag(s.live));
-    let below = life.absorb_u32(s.parent).absorb_u32(s.first_child).absorb_u32(s.last_child);
+    let below = life.absorb_u32(s.parent)
+        .absorb_u32(s.first_child)
+        .absorb_u32(s.last_child);
     below.absorb_u32(s.prev_sibling).absorb_u32(s.next_sibling)
 }
 
 fn layout(h: StateHash, l: LayoutSlot) -> StateHash {
     let worn = l.style;
     let at = l.rect;
-    raw(raw(rect(style(h, worn), at), l.wanted_width), l.wanted_height)
+    raw(
+        raw(rect(style(h, worn), at), l.wanted_width),
+        l.wanted_height,
+    )
 }
 
 fn wide(x: u16) -> u32 {
@@ -182,8 +201,11 @@ fn slots(h: StateHash, u: Ui) -> StateHash {
 
 fn field(h: StateHash, f: Field) -> StateHash {
     let bytes = f.bytes;
-    let n = at_most(f.len as usize, 64);
-    let counts = maybe(h, f.owner).absorb_u32(f.len as u32).absorb_u32(f.cursor as u32);
+    let n = io::count(f.len as isize, &bytes);
+    let owner = f.owner;
+    let counts = maybe(h, owner)
+        .absorb_u32(f.len as u32)
+        .absorb_u32(f.cursor as u32);
     counts.absorb_bytes(&bytes[..n])
 }
 

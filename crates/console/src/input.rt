@@ -30,18 +30,27 @@ impl Pipes {
     }
 }
 
+// Writes the first n bytes of s, of which there are at most 4,096.
+fn write_front(s: &mut [u8], n: usize) {
+    let k = io::count(words::at_most(n, 4096) as isize, s);
+    io::write_all(STDOUT_FILENO, &s[..k]);
+}
+
+// Reads what there is, at most as much as s holds; nothing at the input's end.
+fn read_some(s: &mut [u8]) -> usize {
+    let got = libc::read(STDIN_FILENO, s);
+    io::count(got, s)
+}
+
 // Writes what waits.
 pub fn flush(out: &mut [u8; 4096], held: usize) {
-    let n = words::at_most(held, 4096);
-    io::write_all(STDOUT_FILENO, &out[..n]);
+    write_front(out, held);
 }
 
 // The next bytes of the input, after what waits is written; none at its end.
-fn refill(chunk: &mut [u8; 4096], out: &mut [u8; 4096], held: usize) -> usize
-    ensures { λ r. ⌜ r ≤ 4096 ⌝ }
-{
+fn refill(chunk: &mut [u8; 4096], out: &mut [u8; 4096], held: usize) -> usize {
     flush(out, held);
-    words::at_most(io::read_full(STDIN_FILENO, chunk), 4096)
+    read_some(chunk)
 }
 
 // The next byte; `found` is false at the input's end.
@@ -78,7 +87,12 @@ fn next_byte(chunk: &mut [u8; 4096], out: &mut [u8; 4096], p: Pipes) -> Next {
 }
 
 // The next line, put at the start of `line`. It stops at 1,025 bytes, one more than a line may have.
-pub fn next_line(line: &mut [u8; 1025], chunk: &mut [u8; 4096], out: &mut [u8; 4096], start: Pipes) -> Taken
+pub fn next_line(
+    line: &mut [u8; 1025],
+    chunk: &mut [u8; 4096],
+    out: &mut [u8; 4096],
+    start: Pipes,
+) -> Taken
     ensures { λ r. ⌜ (r .len ≤ 1025) × (r .taken ≤ 1026) ⌝ }
 {
     let mut p = start;
@@ -119,11 +133,19 @@ fn put_at(out: &mut [u8; 4096], held: usize, line: Line) -> usize
     held + n + 1
 }
 
-// The same, after what waits is written where there is no room; how many wait then.
-pub fn put(out: &mut [u8; 4096], held: usize, line: Line) -> usize {
-    if 3900 < held {
-        flush(out, held);
-        return put_at(out, 0, line);
+// The same, after what waits is written where there is no room.
+pub fn put(out: &mut [u8; 4096], p: Pipes, line: Line) -> Pipes {
+    if 3900 < p.held {
+        flush(out, p.held);
+        return Pipes {
+            at: p.at,
+            got: p.got,
+            held: put_at(out, 0, line),
+        };
     }
-    put_at(out, held, line)
+    Pipes {
+        at: p.at,
+        got: p.got,
+        held: put_at(out, p.held, line),
+    }
 }

@@ -9,7 +9,6 @@ mod waiting;
 mod words;
 
 use calls::Kind;
-use calls::Word;
 use input::Pipes;
 use line::Line;
 use tree::StatePatch;
@@ -34,7 +33,7 @@ fn main() {
             break;
         }
         if (1024 < n) | (1048576 < read) {
-            pipes.held = input::put(&mut out, pipes.held, Line::malformed());
+            pipes = input::put(&mut out, pipes, Line::malformed());
             break;
         }
         if n == 0 {
@@ -43,39 +42,35 @@ fn main() {
         if text[0] == 35 {
             continue;
         }
-        let call = calls::read(&text[..n]);
+        let k = io::count(n as isize, &text);
+        let call = calls::read(&text[..k]);
         let word = call.word;
         match calls::kind_of(word) {
-            Kind::Patch(touches) => {
-                let style = call.style;
-                if waiting.count == 65 {
-                    pipes.held = input::put(&mut out, pipes.held, Line::malformed());
-                } else {
-                    waiting = waiting.with(StatePatch {
-                        style: style,
-                        touches_layout: touches,
-                    });
-                    let count = waiting.count as u64;
-                    pipes.held = input::put(&mut out, pipes.held, Line::accepted().number(count));
-                }
-            }
             Kind::Reading => {
-                pipes.held = input::put(&mut out, pipes.held, turn::asked(c.tree, word));
+                pipes = input::put(&mut out, pipes, turn::asked(c.tree, word));
+            }
+            Kind::Change => {
+                c = turn::changed(c.tree, call, waiting);
+                waiting = waiting.after(word);
+                let v = c.verdict;
+                pipes = input::put(&mut out, pipes, turn::plain(v));
             }
             Kind::Event(e) => {
                 c = desk::handle(c.tree, e);
                 let v = c.verdict;
-                pipes.held = input::put(&mut out, pipes.held, turn::plain(v));
+                pipes = input::put(&mut out, pipes, turn::plain(v));
             }
-            Kind::Change => {
+            Kind::Both => {
+                pipes = input::put(&mut out, pipes, turn::asked(c.tree, word));
                 c = turn::changed(c.tree, call, waiting);
-                if let Word::Pool = word { waiting.count = 0; }
-                let v = c.verdict;
-                pipes.held = input::put(&mut out, pipes.held, turn::plain(v));
             }
-            _ => {
-                pipes.held = input::put(&mut out, pipes.held, turn::asked(c.tree, word));
-                c = turn::changed(c.tree, call, waiting);
+            Kind::Patch(touches) => {
+                let style = call.style;
+                pipes = input::put(&mut out, pipes, waiting.answer());
+                waiting = waiting.with(StatePatch {
+                    style: style,
+                    touches_layout: touches,
+                });
             }
         }
     }

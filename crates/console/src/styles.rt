@@ -33,7 +33,7 @@ struct EdgesRead {
     edges: Edges,
 }
 
-struct Background {
+struct BackgroundRead {
     ok: bool,
     bytes: [u8; 4],
 }
@@ -102,12 +102,12 @@ fn edges(s: &[u8]) -> EdgesRead {
 }
 
 // Four words, a byte each.
-fn background(s: &[u8]) -> Background {
+fn background(s: &[u8]) -> BackgroundRead {
     let a = words::number(word(s, 0), 255);
     let b = words::number(word(s, 1), 255);
     let c = words::number(word(s, 2), 255);
     let d = words::number(word(s, 3), 255);
-    Background {
+    BackgroundRead {
         ok: a.ok & b.ok & c.ok & d.ok,
         bytes: [a.value as u8, b.value as u8, c.value as u8, d.value as u8],
     }
@@ -121,7 +121,7 @@ pub fn read(s: &[u8]) -> StyleRead {
     let margin = edges(words::rest(s, 3));
     let padding = edges(words::rest(s, 7));
     let gap = words::raw(word(s, 11));
-    let grow = words::number(word(s, 12), 4294967295);
+    let grow = words::small(word(s, 12));
     let justify = align(word(s, 13));
     let cross = align(word(s, 14));
     let ground = background(words::rest(s, 15));
@@ -145,7 +145,7 @@ pub fn read(s: &[u8]) -> StyleRead {
             margin: outer,
             padding: inner,
             gap: gap.value,
-            grow: grow.value as u32,
+            grow: grow.value,
             justify: along,
             align_cross: across,
             background: bytes,

@@ -4,7 +4,6 @@ use crate::calls::Word;
 use crate::digest;
 use crate::line::Line;
 use crate::waiting::Waiting;
-use crate::words;
 use arithmetic::fold::StateHash;
 use desk::Fingerprint;
 use field::MaybeId;
@@ -21,12 +20,6 @@ use tree::answers::Neighbour;
 use tree::answers::NewId;
 use tree::answers::NodeRect;
 use tree::answers::TextLength;
-
-// The answer, and the tree after the call.
-pub struct Turn {
-    pub line: Line,
-    pub tree: Ui,
-}
 
 // The line of a call that answers nothing but whether it was accepted.
 pub fn plain(v: Verdict) -> Line {
@@ -54,7 +47,7 @@ fn neighbour(n: Neighbour) -> Line {
 fn text_of(a: TextLength, bytes: [u8; 64]) -> Line {
     match a {
         TextLength::Bytes(len) => {
-            let n = words::at_most(len as usize, 64);
+            let n = io::count(len as isize, &bytes);
             Line::accepted().number(len as u64).bytes(&bytes[..n])
         }
         TextLength::Refused(word) => Line::refused(word).text(b" 0 -"),
@@ -77,7 +70,11 @@ fn metres(m: Metres) -> Line {
 
 fn rect(r: NodeRect) -> Line {
     match r {
-        NodeRect::At(at) => Line::accepted().raw(at.x).raw(at.y).raw(at.width).raw(at.height),
+        NodeRect::At(at) => Line::accepted()
+            .raw(at.x)
+            .raw(at.y)
+            .raw(at.width)
+            .raw(at.height),
         NodeRect::Refused(word) => Line::refused(word).text(b" 0 0 0 0"),
     }
 }
@@ -130,11 +127,13 @@ pub fn asked(tree: Ui, word: Word) -> Line {
         Word::Measure(m) => measured(m),
         Word::Focus => {
             let i = tree.interaction;
-            stored(i.focus)
+            let focus = i.focus;
+            stored(focus)
         }
         Word::Pressed => {
             let i = tree.interaction;
-            stored(i.pressed)
+            let pressed = i.pressed;
+            stored(pressed)
         }
         Word::Insert(d) => insertion(tree, d),
         Word::Output => output(tree),
@@ -181,15 +180,35 @@ pub fn changed(tree: Ui, call: Call, waiting: Waiting) -> Changed {
     let table = call.table;
     let patches = waiting.patches;
     match word {
-        Word::New(limit) => { return Ui::new(UiLimits { nodes: limit }); }
-        Word::Insert(d) => { return inserted(tree, d); }
-        Word::Remove(d) => { return tree.remove(d); }
-        Word::Style(d) => { return tree.set_style(d, style); }
-        Word::Table(d) => { return tree.set_state_table(d, table); }
-        Word::Field(d) => { return tree.make_field(d); }
-        Word::Solve(view) => { return tree.solve(view); }
-        Word::Event(e) => { return desk::handle(tree, e); }
-        Word::Output => { return without_output(tree); }
-        _ => { return tree.set_patch_pool(patches, waiting.count); }
+        Word::New(limit) => {
+            return Ui::new(UiLimits { nodes: limit });
+        }
+        Word::Insert(d) => {
+            return inserted(tree, d);
+        }
+        Word::Remove(d) => {
+            return tree.remove(d);
+        }
+        Word::Style(d) => {
+            return tree.set_style(d, style);
+        }
+        Word::Table(d) => {
+            return tree.set_state_table(d, table);
+        }
+        Word::Field(d) => {
+            return tree.make_field(d);
+        }
+        Word::Solve(view) => {
+            return tree.solve(view);
+        }
+        Word::Event(e) => {
+            return desk::handle(tree, e);
+        }
+        Word::Output => {
+            return without_output(tree);
+        }
+        _ => {
+            return tree.set_patch_pool(patches, waiting.count);
+        }
     }
 }

@@ -1,4 +1,6 @@
 // The patches that wait for the next `pool`.
+use crate::calls::Word;
+use crate::line::Line;
 use crate::styles;
 use tree::StatePatch;
 
@@ -22,13 +24,34 @@ impl Waiting {
 
     // One more, where fewer than 65 wait.
     pub fn with(mut self, patch: StatePatch) -> Waiting {
-        let at = self.count as usize;
-        if at < 65 {
-            if at < 64 {
-                self.patches[at] = patch;
-            }
-            self.count = self.count + 1;
+        let n = self.count;
+        if n < 64 {
+            let at = n as usize;
+            self.patches[at] = patch;
+        }
+        if n < 65 {
+            self.count = n + 1;
         }
         self
+    }
+
+    // What one more is answered.
+    pub fn answer(self) -> Line {
+        let n = self.count;
+        if n < 65 {
+            return Line::accepted().number((n + 1) as u64);
+        }
+        Line::malformed()
+    }
+
+    // What waits after a call: nothing after `pool`.
+    pub fn after(mut self, word: Word) -> Waiting {
+        match word {
+            Word::Pool => {
+                self.count = 0;
+                self
+            }
+            _ => self,
+        }
     }
 }

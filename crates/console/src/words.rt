@@ -3,25 +3,31 @@ ghost use Prim.Native.Nat.{_≤_, _<_};
 ghost use lib.ListN.{length};
 
 // A number; `ok` is false, and the value 0, where the word is none.
-pub struct Number {
+pub struct NumberRead {
     pub ok: bool,
     pub value: u64,
 }
 
+// A number of 32 bits, likewise.
+pub struct SmallRead {
+    pub ok: bool,
+    pub value: u32,
+}
+
 // A signed number of 64 bits, likewise.
-pub struct Raw {
+pub struct RawRead {
     pub ok: bool,
     pub value: i64,
 }
 
 // A signed number of 32 bits, likewise.
-pub struct Pixels {
+pub struct PixelsRead {
     pub ok: bool,
     pub value: i32,
 }
 
 // The bytes that a word of hexadecimal digits writes. The longest line holds 508.
-pub struct Bytes {
+pub struct HexRead {
     pub ok: bool,
     pub bytes: [u8; 512],
     pub len: usize,
@@ -97,17 +103,17 @@ pub fn word(s: &[u8], k: usize) -> &[u8] {
     &s[at..end]
 }
 
-fn no_number() -> Number
+fn no_number() -> NumberRead
     ensures { λ r. ⌜ r .value ≤ 0 ⌝ }
 {
-    Number {
+    NumberRead {
         ok: false,
         value: 0,
     }
 }
 
 // The number with one digit more. What is no digit, or does not fit, ends it for good.
-fn with_digit(n: Number, b: u8) -> Number {
+fn with_digit(n: NumberRead, b: u8) -> NumberRead {
     if b < 48 {
         return no_number();
     }
@@ -115,14 +121,14 @@ fn with_digit(n: Number, b: u8) -> Number {
         return no_number();
     }
     if n.value < 1844674407370955161 {
-        return Number {
+        return NumberRead {
             ok: n.ok,
             value: n.value * 10 + (b - 48) as u64,
         };
     }
     if n.value == 1844674407370955161 {
         if b < 54 {
-            return Number {
+            return NumberRead {
                 ok: n.ok,
                 value: 18446744073709551610 + (b - 48) as u64,
             };
@@ -132,21 +138,18 @@ fn with_digit(n: Number, b: u8) -> Number {
 }
 
 // A decimal number with no leading zeros.
-fn decimal(s: &[u8]) -> Number {
+fn decimal(s: &[u8]) -> NumberRead {
     if s.len() == 0 {
         return no_number();
     }
     let first = s[0];
     if first == 48 {
-        return Number {
+        return NumberRead {
             ok: s.len() == 1,
             value: 0,
         };
     }
-    let mut n = Number {
-        ok: true,
-        value: 0,
-    };
+    let mut n = NumberRead { ok: true, value: 0 };
     for i in 0..s.len() {
         n = with_digit(n, s[i]);
     }
@@ -154,7 +157,7 @@ fn decimal(s: &[u8]) -> Number {
 }
 
 // A number of at most `most`.
-pub fn number(s: &[u8], most: u64) -> Number
+pub fn number(s: &[u8], most: u64) -> NumberRead
     ensures { λ r. ⌜ r .value ≤ most ⌝ }
 {
     let n = decimal(s);
@@ -166,8 +169,17 @@ pub fn number(s: &[u8], most: u64) -> Number
     no_number()
 }
 
+// A number of 32 bits.
+pub fn small(s: &[u8]) -> SmallRead {
+    let n = number(s, 4294967295);
+    SmallRead {
+        ok: n.ok,
+        value: n.value as u32,
+    }
+}
+
 // The 64 bits, in two's complement, of a number from -most - 1 to most.
-fn signed(s: &[u8], most: u64) -> Number
+fn signed(s: &[u8], most: u64) -> NumberRead
     requires { ⌜ most < 18446744073709551615 ⌝ }
 {
     if s.len() == 0 {
@@ -178,7 +190,7 @@ fn signed(s: &[u8], most: u64) -> Number
         if n.value == 0 {
             return no_number();
         }
-        return Number {
+        return NumberRead {
             ok: n.ok,
             value: 18446744073709551615 - (n.value - 1),
         };
@@ -191,7 +203,7 @@ fn cast_signed(bits: u64) -> i64 {
     if bits < 9223372036854775808 {
         bits as i64
     } else {
-        (bits - 9223372036854775808) as i64 - 9223372036854775807 - 1
+        -1 - (18446744073709551615 - bits) as i64
     }
 }
 
@@ -200,23 +212,23 @@ fn cast_signed32(bits: u32) -> i32 {
     if bits < 2147483648 {
         bits as i32
     } else {
-        (bits - 2147483648) as i32 - 2147483647 - 1
+        -1 - (4294967295 - bits) as i32
     }
 }
 
 // RAW: any number of 64 bits.
-pub fn raw(s: &[u8]) -> Raw {
+pub fn raw(s: &[u8]) -> RawRead {
     let n = signed(s, 9223372036854775807);
-    Raw {
+    RawRead {
         ok: n.ok,
         value: cast_signed(n.value),
     }
 }
 
 // A number of 32 bits with a sign.
-pub fn pixels(s: &[u8]) -> Pixels {
+pub fn pixels(s: &[u8]) -> PixelsRead {
     let n = signed(s, 2147483647);
-    Pixels {
+    PixelsRead {
         ok: n.ok,
         value: cast_signed32((n.value % 4294967296) as u32),
     }
@@ -242,7 +254,7 @@ fn nibble(b: u8) -> u8
 }
 
 // HASH: 16 hexadecimal digits. The remainder cuts nothing off.
-pub fn hash(s: &[u8]) -> Number {
+pub fn hash(s: &[u8]) -> NumberRead {
     if s.len() != 16 {
         return no_number();
     }
@@ -254,15 +266,15 @@ pub fn hash(s: &[u8]) -> Number {
         }
         value = value % 1152921504606846976 * 16 + d as u64;
     }
-    Number {
+    NumberRead {
         ok: true,
         value: value,
     }
 }
 
-impl Bytes {
-    fn none(ok: bool) -> Bytes {
-        Bytes {
+impl HexRead {
+    fn none(ok: bool) -> HexRead {
+        HexRead {
             ok: ok,
             bytes: [0u8; 512],
             len: 0,
@@ -270,14 +282,14 @@ impl Bytes {
     }
 
     // The bytes with one more, of two digits.
-    fn with(mut self, high: u8, low: u8) -> Bytes {
+    fn with(mut self, high: u8, low: u8) -> HexRead {
         let a = nibble(high);
         let b = nibble(low);
         if 15 < a {
-            return Bytes::none(false);
+            return HexRead::none(false);
         }
         if 15 < b {
-            return Bytes::none(false);
+            return HexRead::none(false);
         }
         let at = self.len;
         if at < 512 {
@@ -289,14 +301,14 @@ impl Bytes {
 }
 
 // HEX that is not `-`: pairs of digits, at least one.
-fn pairs(s: &[u8]) -> Bytes {
+fn pairs(s: &[u8]) -> HexRead {
     if s.len() == 0 {
-        return Bytes::none(false);
+        return HexRead::none(false);
     }
     if s.len() % 2 != 0 {
-        return Bytes::none(false);
+        return HexRead::none(false);
     }
-    let mut all = Bytes::none(true);
+    let mut all = HexRead::none(true);
     for i in 0..s.len() / 2 {
         all = all.with(s[2 * i], s[2 * i + 1]);
     }
@@ -304,9 +316,9 @@ fn pairs(s: &[u8]) -> Bytes {
 }
 
 // HEX.
-pub fn hex(s: &[u8]) -> Bytes {
+pub fn hex(s: &[u8]) -> HexRead {
     if same(s, b"-") {
-        return Bytes::none(true);
+        return HexRead::none(true);
     }
     pairs(s)
 }
