@@ -340,7 +340,7 @@ fn style_of(s: &[u8]) -> Call {
 }
 
 // The call that a line is, its newline not included.
-pub fn read(s: &[u8]) -> Call {
+fn call_of(s: &[u8]) -> Call {
     let n = words::count(s);
     match n {
         1 => bare(alone(s)),
@@ -351,6 +351,16 @@ pub fn read(s: &[u8]) -> Call {
         22 => style_of(s),
         _ => bare(Word::Malformed),
     }
+}
+
+fn front(s: &[u8], n: usize) -> &[u8] {
+    let k = io::count(words::at_most(n, 1024) as isize, s);
+    &s[..k]
+}
+
+// The call in the first n bytes of a line's buffer.
+pub fn read(text: &[u8; 1025], n: usize) -> Call {
+    call_of(front(text, n))
 }
 
 // What a word does to the tree.

@@ -42,8 +42,7 @@ fn main() {
         if text[0] == 35 {
             continue;
         }
-        let k = io::count(n as isize, &text);
-        let call = calls::read(&text[..k]);
+        let call = calls::read(&text, n);
         let word = call.word;
         match calls::kind_of(word) {
             Kind::Reading => {
