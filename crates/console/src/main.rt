@@ -16,6 +16,7 @@ use tree::Ui;
 use tree::UiLimits;
 use waiting::Waiting;
 
+// The tree goes on in the last answer. A script is at most 1,048,576 bytes long, and each line takes one or more of them.
 fn main() {
     let mut c = Ui::new(UiLimits { nodes: 1 });
     let mut waiting = Waiting::none();

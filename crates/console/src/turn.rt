@@ -1,4 +1,4 @@
-// What a call does and what it writes: the tree's and the desk's calls, one for each word.
+// What a call does and what it writes: the tree's and the desk's calls, one for each word. A tree is 60 KB, so that few are held at once.
 use crate::calls::Call;
 use crate::calls::Word;
 use crate::digest;
@@ -141,7 +141,7 @@ pub fn asked(tree: Ui, word: Word) -> Line {
     }
 }
 
-// The answer of an insertion; `inserted` has the tree.
+// The answer of an insertion. Its tree comes from a second call, `inserted`: a result with both would be one more tree on the stack.
 fn insertion(tree: Ui, d: NodeId) -> Line {
     let i = tree.insert(d);
     let a = i.answer;
@@ -157,7 +157,7 @@ fn inserted(tree: Ui, d: NodeId) -> Changed {
     }
 }
 
-// The answer of a taken output; `without_output` has the tree.
+// The answer of a taken output. Its tree comes from `without_output`, likewise.
 fn output(tree: Ui) -> Line {
     let t = desk::next_output(tree);
     let a = t.answer;
@@ -173,7 +173,7 @@ fn without_output(tree: Ui) -> Changed {
     }
 }
 
-// The tree after a call, and whether it was accepted.
+// The tree after a call, and whether the call was accepted. Each arm returns by itself, so that one tree serves them all.
 pub fn changed(tree: Ui, call: Call, waiting: Waiting) -> Changed {
     let word = call.word;
     let style = call.style;
@@ -207,8 +207,14 @@ pub fn changed(tree: Ui, call: Call, waiting: Waiting) -> Changed {
         Word::Output => {
             return without_output(tree);
         }
-        _ => {
+        Word::Pool => {
             return tree.set_patch_pool(patches, waiting.count);
+        }
+        _ => {
+            return Changed {
+                verdict: Verdict::Accepted,
+                tree: tree,
+            };
         }
     }
 }
