@@ -18,7 +18,6 @@ use tree::StatePatch;
 use tree::StateSlot;
 use tree::Style;
 use tree::Ui;
-use tree::Viewport;
 
 fn flag(b: bool) -> u32 {
     if b { 1 } else { 0 }

@@ -1,5 +1,4 @@
 // A line of the answer: the refusal number first, then the values, parted by one space.
-use crate::words;
 use field::MaybeId;
 use field::NodeId;
 use text::refusal;

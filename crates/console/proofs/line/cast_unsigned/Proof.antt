@@ -1,5 +1,5 @@
--- `cast_unsigned` is safe: a number that is not negative is its own bits, and a negative one less than -1 is taken from 2^64 - 1 with its
--- sign turned. Assumes nothing.
+-- `cast_unsigned` is safe: a number that is not negative is its own bits, and a negative x is as far below 2^64 - 1 as it is below -1.
+-- Assumes nothing.
 use mathlib.Core.Path.{_≡_}
 use mathlib.Core.Bool.{true, false}
 use Prim.Native.Nat.{_^_, _≤_, _<_}
