@@ -4,6 +4,8 @@ pub mod NameLaws
 pub mod RefreshSteps
 pub mod PointerSteps
 pub mod KeySteps
+pub mod FoldSteps
+pub mod OutputSteps
 pub mod CallSteps
 pub mod Demand3
 pub mod Corollaries

@@ -2,6 +2,7 @@
 ghost use mathlib.Core.Path.{_≡_};
 ghost use mathlib.Core.List.{_++_};
 ghost use Rattle.arithmetic.specs.Fold.{lowBytes, emptyHash, absorbed};
+ghost use Rattle.arithmetic.specs.Scalar.{unsignedOf};
 ghost use Rattle.desk.specs.Events.{idBytes, maybeBytes, opCode, keyBytes, interactionBytes};
 use crate::Key;
 use arithmetic::fold::StateHash;
@@ -83,15 +84,24 @@ pub(crate) fn decision_fold(before: u64, d: NodeId) -> u64
     id.finish()
 }
 
+// The state after a pixel.
+fn absorb_pixel(hash: StateHash, x: i32, y: i32) -> StateHash
+    ensures { λ r. ⌜ r ≡ absorbed hash (lowBytes 4 (unsignedOf x) ++ lowBytes 4 (unsignedOf y)) ⌝ }
+{
+    let first = hash.absorb_u32(scalar::cast_unsigned(x));
+    first.absorb_u32(scalar::cast_unsigned(y))
+}
+
 // The state after all that the tree remembers between events.
 pub(crate) fn absorb_interaction(hash: StateHash, a: Interaction) -> StateHash
     ensures { λ r. ⌜ r ≡ absorbed hash (interactionBytes a) ⌝ }
 {
     let at = a.pointer;
-    let x = hash.absorb_u32(scalar::cast_unsigned(at.x));
-    let y = x.absorb_u32(scalar::cast_unsigned(at.y));
-    let pressed = absorb_maybe(y, a.pressed);
-    let focus = absorb_maybe(pressed, a.focus);
+    let held = a.pressed;
+    let focused = a.focus;
+    let pointer = absorb_pixel(hash, at.x, at.y);
+    let pressed = absorb_maybe(pointer, held);
+    let focus = absorb_maybe(pressed, focused);
     let activations = focus.absorb_u64(a.activations);
     let decisions = activations.absorb_u64(a.decisions);
     let overflowed = decisions.absorb_u64(a.overflowed);

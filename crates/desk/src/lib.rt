@@ -60,11 +60,13 @@ pub fn handle(u: Ui, event: UiEvent) -> Changed
             tree: u,
         };
     }
-    let before = u.interaction;
-    let hit = input::hit_test(u, before.pointer);
+    let interaction = u.interaction;
+    let pixel = interaction.pointer;
+    let hit = input::hit_test(u, pixel);
     let heard = events::heard(u, hit, event);
     let after = heard.interaction;
-    let hover = input::hit_test(heard, after.pointer);
+    let place = after.pointer;
+    let hover = input::hit_test(heard, place);
     let next = wearing::refresh_states(heard, hover);
     Changed {
         verdict: Verdict::Accepted,
@@ -89,7 +91,7 @@ pub fn next_output(u: Ui) -> Taken
         };
     }
     let waiting = u.outputs;
-    let oldest = waiting[0];
+    let oldest = outputs::oldest(waiting, u.output_count);
     let next = outputs::without_oldest(u);
     Taken {
         answer: Neighbour::Node(oldest),

@@ -1,7 +1,8 @@
 // The waiting outputs, oldest first.
 ghost use mathlib.Core.Path.{_≡_};
-ghost use Prim.Native.Nat.{_≤_};
-ghost use lib.ListN.{take, drop};
+ghost use Prim.Native.Nat.{_-_, _≤_};
+ghost use mathlib.Core.List.{_∷_};
+ghost use lib.ListN.{length, take, drop};
 ghost use Rattle.tree.specs.Trees.{over, waitingOf, withWaiting};
 use field::NodeId;
 use tree::Ui;
@@ -9,7 +10,7 @@ use tree::Ui;
 // The outputs with the first `count` moved one place to the front; the oldest is lost.
 fn moved_up(ids: [NodeId; 128], count: u32) -> [NodeId; 128]
     requires { ⌜ (1 ≤ count) × (count ≤ 128) ⌝ }
-    ensures { λ r. ⌜ r ≡ over (drop 1 (take count ids)) ids ⌝ }
+    ensures { λ r. ⌜ (r ≡ over (drop 1 (take count ids)) ids) × (length (drop 1 (take count ids)) ≡ count - 1) ⌝ }
 {
     let mut out = ids;
     let n = (count - 1) as usize;
@@ -19,6 +20,14 @@ fn moved_up(ids: [NodeId; 128], count: u32) -> [NodeId; 128]
         j += 1;
     }
     out
+}
+
+// The oldest of the outputs that wait.
+pub(crate) fn oldest(ids: [NodeId; 128], count: u32) -> NodeId
+    requires { ⌜ 1 ≤ count ⌝ }
+    ensures { λ r. ⌜ take count ids ≡ r ∷ drop 1 (take count ids) ⌝ }
+{
+    ids[0]
 }
 
 // The tree without its oldest output.

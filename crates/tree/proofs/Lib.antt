@@ -38,6 +38,7 @@ pub mod ShapeParts
 pub mod LookParts
 pub mod GivenIds
 pub mod InsertParts
+pub mod CallParts
 pub mod RemoveParts
 pub mod NotBroken
 pub mod FieldParts

@@ -11,13 +11,22 @@ use borrow.Author.Tests.{ltb-true, ltb-false, lt-ltb, le-ltb}
 use Rattle.tree.proofs.TestLaws.{bool-cases}
 use Rattle.tree.specs.declared.Slot.{Slot}
 use Rattle.tree.specs.declared.links.Order.{Order}
-use Rattle.tree.specs.Slots.{Slots, at, put, idle, chainBack, joined, freeOrder, aged, freed}
+use Rattle.tree.specs.Slots.{Slots, noSlot, LinksOf, at, put, idle, chainBack, joined, freeOrder, aged, freed}
 use Rattle.tree.specs.Tests.{finalOr}
-use Rattle.tree.specs.Lists.{listed, noneListed, added, addedAll}
+use Rattle.tree.specs.Lists.{listed, orderOf, noneListed, added, addedAll}
 
 -- cases on an order of two numbers, for any goal
 lt-cases : {G : Type 0} (i j : ℕ) → (i < j → G) → (j ≤ i → G) → G
 lt-cases {G = G} i j f g = bool-cases (ltb i j) (λ e. f (ltb-true i j e)) (λ e. g (ltb-false i j e))
+
+-- links right below 128 are right at every index: past the arrays both are 0
+pub every-link : (s : Slots) (f : Slot → ℕ) (l : List ℕ) → length s ≡ 128 → length l ≡ 128 → f noSlot ≡ 0 → ((i : ℕ) → i < 128 → getD l i 0 ≡ f (at s i)) → LinksOf s f l
+unfolding at
+every-link s f l a b e p i = lt-cases i 128 (p i) (λ h. List·getD-eq-default l 0 (omega arith) ∙ sym (ap f (List·getD-eq-default s noSlot (omega arith)) ∙ e))
+
+pub added-where-there-is-room : (o : Order) (i : ℕ) → o .count < 128 → orderOf (set (o .items) (o .count) i) (o .count + 1) ≡ added o i
+unfolding added
+added-where-there-is-room o i h = rw (lt-ltb _ _ h)
 
 pub added-join : (o : Order) (l m : List ℕ) → addedAll (addedAll o l) m ≡ addedAll o (l ++ m)
 unfolding addedAll
@@ -52,7 +61,7 @@ pub free-order-none : (d : ℕ) (s : Slots) (o : Order) (i : ℕ) → d ≡ 0 �
 unfolding freeOrder addedAll
 free-order-none d s o i h = rw h
 
-pub free-order-whole : (d : ℕ) (s : Slots) (o : Order) (i : ℕ) {out : Order} {x : Slot} → (d ≡ 0 → ⊥) → out ≡ added o i → x ≡ at s i → addedAll out (joined (freeOrder (d - 1) s) (chainBack 128 s (x .«last_child»))) ≡ addedAll o (freeOrder d s i)
+pub free-order-whole : (d : ℕ) (s : Slots) (o : Order) (i : ℕ) {out : Order} {c : ℕ} → (d ≡ 0 → ⊥) → out ≡ added o i → c ≡ at s i .«last_child» → addedAll out (joined (freeOrder (d - 1) s) (chainBack 128 s c)) ≡ addedAll o (freeOrder d s i)
 unfolding freeOrder addedAll
 free-order-whole zero s o i h p q = absurd (h refl)
 free-order-whole (suc d) s o i h p q = rw (sub-one, p, q)
@@ -110,6 +119,9 @@ listed-first i = listed-one noneListed i none-kept none-first ∙ ap (λ (m : Li
 
 pub listed-from-none : (l : List ℕ) → listed (addedAll noneListed l) ≡ take 128 l
 listed-from-none l = listed-all noneListed l none-kept ∙ ap (λ (m : List ℕ). take 128 (m ++ l)) none-is-listed
+
+pub listed-by-a-walk : (o : Order) (l : List ℕ) → o ≡ addedAll noneListed l → (o .count ≤ 128) × (listed o ≡ take 128 l)
+listed-by-a-walk o l e = rw e (all-kept noneListed l none-kept .1, listed-from-none l)
 
 -- ---- a list read by its index
 pub listed-count : (o : Order) → length (o .items) ≡ 128 → o .count < 128 → o .count ≡ length (listed o)

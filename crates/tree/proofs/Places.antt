@@ -1,5 +1,5 @@
 -- Walks over the fields, a turn at a time, and what they come to. Assumes nothing.
-use Prim.Native.Nat.{ℕ, suc, _+_, _<_, _≤_}
+use Prim.Native.Nat.{ℕ, suc, _+_, _-_, _<_, _≤_}
 use mathlib.Core.Path.{_≡_, refl, sym, ap, _∙_}
 use mathlib.Core.Bool.{Bool, true, false, _&&_}
 use mathlib.Core.List.{List, [], _∷_, _++_, append-assoc, append-nil}
@@ -80,6 +80,29 @@ module _ (p : Field → Bool) (c : Field → Field) (l : List Field) where
 
   pub nothing-changes : (i : ℕ) → length l ≤ i → l ≡ take i l ++ changeFirst p c (drop i l)
   nothing-changes i h = rw (take-all i l h, drop-of-length-le l h, append-nil)
+
+-- the field at the place of the first that passes, changed
+change-behind : (p : Field → Bool) (c : Field → Field) (l : List Field) (i k : ℕ) → placeFrom p i l ≡ At k
+    → (i ≤ k) × (set l (k - i) (c (getD l (k - i) emptyField)) ≡ changeFirst p c l)
+unfolding placeFrom
+change-behind p c [] i k e = let z : _≡_ {A = ℕ} 0 1 = cc in absurd (omega arith)
+change-behind p c (f ∷ fs) i k e =
+    bool-cases (p f)
+    (λ q.
+    let h : At i ≡ At k = rw q at e in
+    let z : i ≡ k = cc in
+    let n : k - i ≡ 0 = omega arith in
+    (omega arith, rw (q, n)))
+    (λ q.
+    let h : placeFrom p (suc i) fs ≡ At k = rw q at e in
+    let r = change-behind p c fs (suc i) k h in
+    let m : k - i ≡ suc (k - suc i) = omega (arith, r .0) in
+    (omega (arith, r .0), rw (q, m) (ap (λ (l : List Field). f ∷ l) (r .1))))
+
+pub the-place-is-changed : (d : NodeId) (c : Field → Field) (fs : List Field) (k : ℕ) → placeOf d fs ≡ At k
+    → set fs k (c (getD fs k emptyField)) ≡ changeFirst (owns d) c fs
+unfolding placeOf
+the-place-is-changed d c fs k e = let z : k - 0 ≡ k = omega arith in rw z at (change-behind (owns d) c fs 0 k e .1)
 
 -- ---- owners
 

@@ -10,10 +10,9 @@ use lib.ListN.{length, take}
 use Rattle.field.specs.Fields.{fieldOk}
 use Rattle.text.specs.declared.refusal.Refusal.{Refusal}
 use Rattle.text.specs.declared.refusal.Refusal.the-variants.{Broken, Missing}
-use Rattle.text.specs.declared.refusal.Verdict.{Verdict}
 use Rattle.text.specs.declared.refusal.Verdict.the-variants.{Accepted, Refused}
 use Rattle.field.specs.declared.NodeId.{NodeId}
-use Rattle.tree.specs.Tests.{pick, same, all, occ, headOr, fromTo}
+use Rattle.tree.specs.Tests.{same, all, occ, headOr, fromTo}
 use Rattle.tree.specs.Slots.{Slots, NIL, at, isLive, order, chain, kidsAt}
 use Rattle.tree.specs.Trees.{limitOf, statedOf}
 use Rattle.tree.specs.Rules.{broken, linksWell, eachOnce, aliveness, nodeWell, freeWell, stateWell, distinct, ownersWell}
@@ -61,6 +60,16 @@ third true true true d e = (refl, refl)
 third true true false d e = no-more (sym e)
 third true false c d e = no-more (sym e)
 third false b c d e = no-more (sym e)
+
+seventh : (a b c d e f g h : Bool) → not (a && (b && (c && (d && (e && (f && (g && h))))))) ≡ false → g ≡ true
+seventh true true true true true true true h z = refl
+seventh true true true true true true false h z = no-more (sym z)
+seventh true true true true true false g h z = no-more (sym z)
+seventh true true true true false f g h z = no-more (sym z)
+seventh true true true false e f g h z = no-more (sym z)
+seventh true true false d e f g h z = no-more (sym z)
+seventh true false c d e f g h z = no-more (sym z)
+seventh false b c d e f g h z = no-more (sym z)
 
 second-fourth-sixth : (a b c d e f : Bool) → (a && (b && (c && (d && (e && f))))) ≡ true → (b ≡ true) × (d ≡ true) × (f ≡ true)
 second-fourth-sixth true true true true true f e = (refl, refl, e)
@@ -110,6 +119,17 @@ module _ (u : Ui) (b : broken u ≡ false) where
       (at (u .slots) 0 .live && (same (at (u .slots) 0 .parent) NIL && (same (at (u .slots) 0 .«prev_sibling») NIL && same (at (u .slots) 0 .«next_sibling») NIL)))
       (eachOnce (limitOf u) (u .slots) reached free) (all (nodeWell (u .slots)) reached) (same (u .free) (headOr NIL free)) (freeWell (u .slots) free) (same (u .live) (length reached)) (kept .1)
 
+  pub few-slots : limitOf u ≤ 128
+  few-slots = leb-true (limitOf u) 128 (last-of-two (leb 1 (limitOf u)) (leb (limitOf u) 128) (kept .0))
+
+  pub few-waiting : u .«output_count» ≤ limitOf u
+  unfolding broken
+  few-waiting =
+      leb-true (u .«output_count») (limitOf u)
+      (seventh (leb 1 (limitOf u) && leb (limitOf u) 128) (leb (u .«patch_count») 64) (linksWell u)
+      (all (stateWell (u .«patch_count»)) (take (limitOf u) (u .states))) (leb (u .«stated_count») 3) (distinct (limitOf u) (statedOf u))
+      (leb (u .«output_count») (limitOf u)) (ownersWell (u .fields) && all fieldOk (u .fields)) b)
+
   pub few-live : u .live ≤ 128
   few-live =
       let s = order-is-short 128 (u .slots) (0 ∷ []) in
@@ -120,7 +140,7 @@ module _ (u : Ui) (b : broken u ≡ false) where
   free-inside h =
       let a : all (λ (i : ℕ). ltb i (limitOf u)) free ≡ true = last-of-three
       (all (λ (i : ℕ). same (occ i reached) (aliveness (at (u .slots) i)) && same (occ i reached + occ i free) 1) (fromTo 0 (limitOf u))) (all (λ (i : ℕ). ltb i (limitOf u)) reached) (all (λ (i : ℕ). ltb i (limitOf u)) free) (parts .0) in
-      let m : limitOf u ≤ 128 = leb-true (limitOf u) 128 (last-of-two (leb 1 (limitOf u)) (leb (limitOf u) 128) (kept .0)) in
+      let m = few-slots in
       eq-cases (u .free) (headOr NIL free)
       (λ q _ _. let r = head-inside (limitOf u) free a (λ z. h (q ∙ z)) in omega arith)
       (λ _ n _. no-more (sym n ∙ parts .1))

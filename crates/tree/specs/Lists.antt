@@ -6,6 +6,10 @@ use lib.ListN.{set, take, replicate}
 use Rattle.tree.specs.Tests.{pick}
 use Rattle.tree.specs.declared.links.Order.{Order}
 
+-- An array and a count.
+abbrev pub orderOf : List ℕ → ℕ → Order
+orderOf l n = record { items = l; count = n }
+
 -- The slots listed.
 unfoldable pub listed : Order → List ℕ
 listed o = take (o .count) (o .items)

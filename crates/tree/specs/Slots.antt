@@ -1,5 +1,6 @@
 -- Document 01, **Tree**: slots, their links, and the ids that name them.
 use Prim.Native.Nat.{ℕ, zero, suc, _+_, _%_, _^_}
+use mathlib.Core.Path.{_≡_}
 use mathlib.Core.Bool.{Bool, true, false, _&&_}
 use mathlib.Core.List.{List, [], _∷_, _++_}
 use lib.Dec.{ltb}
@@ -24,6 +25,10 @@ at s i = getD s i noSlot
 
 unfoldable pub put : Slots → ℕ → Slot → Slots
 put s i x = set s i x
+
+-- The list has one link of each slot.
+abbrev pub LinksOf : Slots → (Slot → ℕ) → List ℕ → Type 0
+LinksOf s f l = (i : ℕ) → getD l i 0 ≡ f (at s i)
 
 -- A live slot: generation, parent, first and last child, previous and next sibling. A dead one: generation, and the next of the free chain.
 abbrev pub used : ℕ → ℕ → ℕ → ℕ → ℕ → ℕ → Slot
@@ -102,7 +107,7 @@ unfoldable pub freeOrder : ℕ → Slots → ℕ → List ℕ
 freeOrder zero s i = []
 freeOrder (suc d) s i = i ∷ joined (freeOrder d s) (chainBack 128 s (at s i .«last_child»))
 
--- At most 128 of it, which is all where the links keep their rules.
+-- At most 128 of it. Where the slots hold a forest, as after any calls from a new tree, that is all of it.
 unfoldable pub freeing : Slots → ℕ → List ℕ
 freeing s i = take 128 (freeOrder 128 s i)
 

@@ -273,10 +273,12 @@ impl Ui {
         ensures { λ r. ⌜ insertedOf r ≡ insert self parent ⌝ }
     {
         match self.standing(parent) {
-            Verdict::Refused(word) => Inserted {
-                answer: NewId::Refused(word),
-                tree: self,
-            },
+            Verdict::Refused(word) => {
+                return Inserted {
+                    answer: NewId::Refused(word),
+                    tree: self,
+                };
+            }
             Verdict::Accepted => {
                 let index = self.free;
                 if index == NIL {
@@ -288,10 +290,10 @@ impl Ui {
                 let slots = self.slots;
                 let id = links::id_at(slots, index);
                 let next = nodes::insert_at(self, parent.index);
-                Inserted {
+                return Inserted {
                     answer: NewId::Id(id),
                     tree: next,
-                }
+                };
             }
         }
     }
@@ -301,10 +303,12 @@ impl Ui {
         ensures { λ r. ⌜ changedOf r ≡ remove self d ⌝ }
     {
         match self.standing(d) {
-            Verdict::Refused(word) => Changed {
-                verdict: Verdict::Refused(word),
-                tree: self,
-            },
+            Verdict::Refused(word) => {
+                return Changed {
+                    verdict: Verdict::Refused(word),
+                    tree: self,
+                };
+            }
             Verdict::Accepted => {
                 if d.index == 0 {
                     return Changed {
@@ -313,10 +317,10 @@ impl Ui {
                     };
                 }
                 let next = nodes::remove_at(self, d.index);
-                Changed {
+                return Changed {
                     verdict: Verdict::Accepted,
                     tree: next,
-                }
+                };
             }
         }
     }

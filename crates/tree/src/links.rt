@@ -1,13 +1,14 @@
 // Slots and their links, over the array of slots by value. An index that is no slot reads the zero slot and stores nothing.
 ghost use mathlib.Core.Path.{_≡_};
-ghost use Rattle.tree.specs.Slots.{at, put, isLive, idAt, change, setFirst, setLast, setPrev, setNext, linkLast, NIL, chain, kidsAt, order, freeOrder, idle, aged, freed};
+ghost use Rattle.tree.specs.Slots.{at, put, isLive, idAt, change, setFirst, setLast, setPrev, setNext, linkLast, NIL, Slots, LinksOf, chain, kidsAt, order, freeOrder, idle, aged, freed};
 ghost use Rattle.tree.specs.Slots as links;
 ghost use Prim.Native.Nat.{_≤_};
 ghost use mathlib.Core.List.{[], _∷_};
 ghost use lib.ListN.{length, getD, take};
-ghost use Rattle.tree.specs.Lists.{listed, noneListed, addedAll};
+ghost use Rattle.tree.specs.Lists.{listed, orderOf, noneListed, addedAll};
 ghost use Rattle.tree.specs.Lists as lists;
 ghost use Rattle.tree.specs.Tests.{pick, same, finalOr};
+ghost use Rattle.tree.specs.declared.Slot.{Slot};
 use crate::Slot;
 use field::NodeId;
 
@@ -193,39 +194,94 @@ fn added(o: Order, i: u32) -> Order
     o
 }
 
-// The list with the node and all below it after it, `depth` levels down, in the order of freeing. A full list ends the walk, so that no
-// links keep it going.
-fn list_freed(slots: [Slot; 128], o: Order, node: u32, depth: u32) -> Order
-    ensures { λ r. ⌜ r ≡ addedAll o (freeOrder depth slots node) ⌝ }
+// The last child of each slot.
+fn last_links(slots: [Slot; 128]) -> [u32; 128]
+    ensures { λ r. ⌜ LinksOf slots (λ (s : Slot). s .«last_child») r ⌝ }
+{
+    let mut out = [0u32; 128];
+    let mut i: u32 = 0;
+    while i < 128 {
+        let s = slot_at(slots, i);
+        let k = i as usize;
+        out[k] = s.last_child;
+        i += 1;
+    }
+    out
+}
+
+// The previous sibling of each slot.
+fn prev_links(slots: [Slot; 128]) -> [u32; 128]
+    ensures { λ r. ⌜ LinksOf slots (λ (s : Slot). s .«prev_sibling») r ⌝ }
+{
+    let mut out = [0u32; 128];
+    let mut i: u32 = 0;
+    while i < 128 {
+        let s = slot_at(slots, i);
+        let k = i as usize;
+        out[k] = s.prev_sibling;
+        i += 1;
+    }
+    out
+}
+
+// The link of slot i.
+fn link_at(links: &[u32], i: u32) -> u32
+    ensures { λ r. ⌜ r ≡ getD (now (links .entry)) i 0 ⌝ }
+{
+    let k = i as usize;
+    if k < links.len() {
+        return links[k];
+    }
+    0
+}
+
+// The first `count` items with the node and all below it after them, `depth` levels down, in the order of freeing; returns how many are listed.
+// It carries links alone, lent, since each level is a call. A full list ends the walk, so that no links keep it going.
+fn list_freed(
+    last: &[u32],
+    prev: &[u32],
+    items: &mut [u32; 128],
+    count: u32,
+    node: u32,
+    depth: u32,
+) -> u32
+    ensures { λ r. ⌜ ((s : Slots) → LinksOf s (λ (x : Slot). x .«last_child») (now (last .entry)) → LinksOf s (λ (x : Slot). x .«prev_sibling») (now (prev .entry)) → orderOf (now (items .exit)) r ≡ addedAll (orderOf (now (items .entry)) count) (freeOrder depth s node)) ⌝ }
 {
     if depth == 0 {
-        return o;
+        return count;
     }
-    if 128 <= o.count {
-        return o;
+    if 128 <= count {
+        return count;
     }
-    let s = slot_at(slots, node);
-    let mut out = added(o, node);
-    let mut child = s.last_child;
+    let k = count as usize;
+    items[k] = node;
+    let mut n = count + 1;
+    let mut child = link_at(last, node);
     let mut left: u32 = 128;
     while 0 < left {
         if 128 <= child {
-            return out;
+            return n;
         }
-        let c = slot_at(slots, child);
-        out = list_freed(slots, out, child, depth - 1);
-        child = c.prev_sibling;
+        n = list_freed(last, prev, items, n, child, depth - 1);
+        child = link_at(prev, child);
         left -= 1;
     }
-    out
+    n
 }
 
 // The node and all below it in the order of freeing, as far as 128 go.
 pub(crate) fn freed_order(slots: [Slot; 128], node: u32) -> Order
     ensures { λ r. ⌜ (r .count ≤ 128) × (listed r ≡ take 128 (freeOrder 128 slots node)) ⌝ }
 {
+    let last = last_links(slots);
+    let prev = prev_links(slots);
     let none = none_listed();
-    list_freed(slots, none, node, 128)
+    let mut items = none.items;
+    let n = list_freed(&last, &prev, &mut items, none.count, node, 128);
+    Order {
+        items: items,
+        count: n,
+    }
 }
 
 // How many slots are listed.

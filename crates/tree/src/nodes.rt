@@ -9,7 +9,6 @@ ghost use Rattle.tree.specs.Answers.{neighbourOf};
 ghost use Rattle.text.specs.Refusal.{accepted};
 ghost use Rattle.field.specs.declared.MaybeId.the-variants.{Absent, Present};
 ghost use Rattle.tree.specs.Lists.{listed};
-ghost use lib.ListN.{set};
 use crate::LayoutSlot;
 use crate::Rect;
 use crate::Slot;
@@ -64,19 +63,21 @@ fn reset_states(states: [StateSlot; 128], o: Order) -> [StateSlot; 128]
     ensures { λ r. ⌜ r ≡ resetStates states (listed o) ⌝ }
 {
     let n = links::listed_count(o);
+    let fresh = start::fresh_state();
     let mut out = states;
     let mut k: u32 = 0;
     while k < n {
-        let i = links::listed_at(o, k, 0);
-        let next = with_state(out, i, start::fresh_state());
-        out = next;
+        let i = links::listed_at(o, k, 0) as usize;
+        if i < 128 {
+            out[i] = fresh;
+        }
         k += 1;
     }
     out
 }
 
 // Slot `index` and all below it leave the tree; their state slots are as new.
-pub(crate) fn remove_at(u: Ui, index: u32) -> Ui
+pub(crate) fn remove_at(mut u: Ui, index: u32) -> Ui
     ensures { λ r. ⌜ r ≡ removeAt u index ⌝ }
 {
     let slots = u.slots;
@@ -87,13 +88,13 @@ pub(crate) fn remove_at(u: Ui, index: u32) -> Ui
     let kept = f.slots;
     let reset = reset_states(states, o);
     let n = links::listed_count(o);
-    let mut out = u;
-    out.slots = kept;
-    out.states = reset;
-    out.free = f.free;
-    out.live = less(u.live, n);
-    out.dirty = true;
-    out
+    let live = less(u.live, n);
+    u.slots = kept;
+    u.states = reset;
+    u.free = f.free;
+    u.live = live;
+    u.dirty = true;
+    u
 }
 
 // The difference, 0 where there is none.
@@ -104,19 +105,6 @@ fn less(a: u32, b: u32) -> u32
         return a - b;
     }
     0
-}
-
-// The state slots with s as slot i.
-fn with_state(states: [StateSlot; 128], i: u32, s: StateSlot) -> [StateSlot; 128]
-    ensures { λ r. ⌜ r ≡ set states i s ⌝ }
-{
-    let mut out = states;
-    if i < 128 {
-        let k = i as usize;
-        out[k] = s;
-        return out;
-    }
-    out
 }
 
 // The box of slot i.

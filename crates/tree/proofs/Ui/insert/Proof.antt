@@ -19,12 +19,16 @@ standing-requires c κs = search needs
 enum-known-word : tie.Need-enum-known-word
 enum-known-word c = search needs
 
+returns : tie.Need-returns
+unfolding insert
+returns c = refused-at-once _ _ _ _ _ (sym (c .before .before .before .standing .ensures) ∙ c .before .word .given .1)
+
 enum-told : tie.Need-enum-told
 enum-told c = search needs
 
-returns : tie.Need-returns
+returns-2 : tie.Need-returns-2
 unfolding insert
-returns c =
+returns-2 c =
     let u = c .before .before .before .before .args .self in
     let d = c .before .before .before .before .args .parent in
     let o : Outcome NodeId = pick (same (u .free) NIL) (refuses u Full nobody) (gives (insertAt u (d .index)) (idAt (u .slots) (u .free))) in
@@ -41,10 +45,6 @@ insert-at-requires c κs =
     let s = not-broken u d (sym (c .before .before .before .before .before .standing .ensures) ∙ c .before .before .before .enum-told .given .1) in
     (few-live u s, free-inside u s (c .before .before .if1 .left))
 
-returns-2 : tie.Need-returns-2
-unfolding insert
-returns-2 c = refused-at-once _ _ _ _ _ (sym (c .before .before .before .standing .ensures) ∙ c .before .word .given .1)
-
 returns-3 : tie.Need-returns-3
 unfolding insert
 returns-3 c =
@@ -60,9 +60,9 @@ insert-spec =
     (tie.spec
     standing-requires
     enum-known-word
-    enum-told
     returns
+    enum-told
+    returns-2
     id-at-requires
     insert-at-requires
-    returns-2
     returns-3)

@@ -17,12 +17,16 @@ standing-requires c κs = search needs
 enum-known-word : tie.Need-enum-known-word
 enum-known-word c = search needs
 
+returns : tie.Need-returns
+unfolding remove
+returns c = refused-at-once _ _ _ _ _ (sym (c .before .before .before .standing .ensures) ∙ c .before .word .given .1)
+
 enum-told : tie.Need-enum-told
 enum-told c = search needs
 
-returns : tie.Need-returns
+returns-2 : tie.Need-returns-2
 unfolding remove
-returns c =
+returns-2 c =
     let u = c .before .before .before .before .before .args .self in
     let d = c .before .before .before .before .before .args .d in
     let o : Outcome ℕ = pick (same (d .index) 0) (refuses u Root 0) (gives (removeAt u (d .index)) 0) in
@@ -31,10 +35,6 @@ returns c =
 
 remove-at-requires : tie.Need-remove-at-requires
 remove-at-requires c κs = search needs
-
-returns-2 : tie.Need-returns-2
-unfolding remove
-returns-2 c = refused-at-once _ _ _ _ _ (sym (c .before .before .before .standing .ensures) ∙ c .before .word .given .1)
 
 returns-3 : tie.Need-returns-3
 unfolding remove
@@ -51,8 +51,8 @@ remove-spec =
     (tie.spec
     standing-requires
     enum-known-word
-    enum-told
     returns
-    remove-at-requires
+    enum-told
     returns-2
+    remove-at-requires
     returns-3)

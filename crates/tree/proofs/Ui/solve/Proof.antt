@@ -35,7 +35,7 @@ unfolding solve guarded withPass
 returns-3 c =
     let u = c .before .before .before .before .before .before .before .before .before .before .args .self in
     let e : (not (u .dirty) && sameView (u .«solved_for») (c .before .before .before .before .before .before .before .before .before .before .args .view)) ≡ false = ap (λ (b : Bool). not (u .dirty) && b) (sym (c .before .before .before .before .before .same-view .ensures)) ∙ c .before .before .before .before .if2 .left in
-    rw (sym (c .before .before .before .before .before .before .before .before .before .broken .ensures) ∙ c .before .before .before .before .before .before .before .before .if1 .left, e) cc
+    rw (sym (c .before .before .before .before .before .before .before .before .before .broken .ensures) ∙ c .before .before .before .before .before .before .before .before .if1 .left, e, c .increment .ensures, c .before .solve .ensures)
 
 pub solve-spec : {M : Type 1} → statement M
 solve-spec =

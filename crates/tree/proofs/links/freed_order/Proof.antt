@@ -1,18 +1,47 @@
--- The walk from none, and what is listed is the first 128 of the order. Assumes nothing.
+-- The walk from none, over the slots' links, and what is listed is the first 128 of the order. Assumes nothing.
+use Prim.Native.Nat.{ℕ}
+use mathlib.Core.Path.{ap, _∙_}
+use mathlib.Core.List.{List}
+use Rattle.tree.specs.Slots.{freeOrder}
+use Rattle.tree.specs.Lists.{orderOf, addedAll}
+use Rattle.tree.specs.declared.links.Order.{Order}
+use Rattle.tree.proofs.ListLaws.{listed-by-a-walk}
 use borrow.Author.Needs.{needs}
-use Rattle.tree.proofs.ListLaws.{none-kept, all-kept, listed-from-none}
-use Rattle.tree.specs.Lists.{noneListed}
 use Rattle.tree.proofs.links.freed_order.Statement.{statement}
 use Rattle.tree.proofs.links.freed_order.Tie as tie
 
+last-links-requires : tie.Need-last-links-requires
+last-links-requires c κs = search needs
+
+prev-links-requires : tie.Need-prev-links-requires
+prev-links-requires c κs = search needs
+
 none-listed-requires : tie.Need-none-listed-requires
 none-listed-requires c κs = search needs
+
+slice-aggregate-list-freed : tie.Need-slice-aggregate-list-freed
+slice-aggregate-list-freed c = search needs
+
+slice-aggregate-list-freed-2 : tie.Need-slice-aggregate-list-freed-2
+slice-aggregate-list-freed-2 c = search needs
 
 list-freed-requires : tie.Need-list-freed-requires
 list-freed-requires c κs = search needs
 
 returns : tie.Need-returns
-returns c = rw (c .list-freed .ensures, c .before .none-listed .ensures) (all-kept noneListed _ none-kept .1, listed-from-none _)
+returns c =
+    let l : List ℕ = freeOrder 128 (c .before .before .before .before .before .before .before .before .args .slots) (c .before .before .before .before .before .before .before .before .args .node) in
+    listed-by-a-walk (orderOf _ _) l
+    (c .list-freed .ensures _ (c .before .before .before .before .before .before .before .last-links .ensures) (c .before .before .before .before .before .before .prev-links .ensures) ∙ ap (λ (o : Order). addedAll o l) (c .before .before .before .before .before .none-listed .ensures))
 
 pub freed-order-spec : {M : Type 1} → statement M
-freed-order-spec = tie.close (tie.spec none-listed-requires list-freed-requires returns)
+freed-order-spec =
+    tie.close
+    (tie.spec
+    last-links-requires
+    prev-links-requires
+    none-listed-requires
+    slice-aggregate-list-freed
+    slice-aggregate-list-freed-2
+    list-freed-requires
+    returns)

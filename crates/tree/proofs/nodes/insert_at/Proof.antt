@@ -43,7 +43,7 @@ add-out c = search needs
 
 returns : tie.Need-returns
 unfolding insertAt withNodes
-returns c = cc
+returns c = rw (c .before .fresh-state .ensures, c .before .before .fresh-layout .ensures, c .before .before .before .link-last .ensures, c .before .before .before .before .with-slot .ensures, c .before .before .before .before .before .taken .ensures, c .before .before .before .before .before .before .slot-at .ensures)
 
 pub insert-at-spec : {M : Type 1} → statement M
 insert-at-spec =

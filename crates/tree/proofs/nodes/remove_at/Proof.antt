@@ -26,7 +26,7 @@ less-requires c κs = search needs
 
 returns : tie.Need-returns
 unfolding removeAt withNodes freeing
-returns c = let e = c .before .before .before .before .before .freed-order .ensures .1 in cc
+returns c = rw (c .less .ensures, c .before .listed-count .ensures, c .before .before .reset-states .ensures, c .before .before .before .before .free-listed .ensures .0, c .before .before .before .before .free-listed .ensures .1, c .before .before .before .before .before .freed-order .ensures .1, c .before .before .before .before .before .before .unlink .ensures)
 
 pub remove-at-spec : {M : Type 1} → statement M
 remove-at-spec =

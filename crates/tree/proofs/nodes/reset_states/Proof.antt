@@ -1,12 +1,14 @@
 -- What is left of the list resets the rest. Assumes nothing.
+use mathlib.Core.Logic.{⊎-elim}
+use lib.Seq.{set-out}
 use Rattle.tree.proofs.ListLaws.{one-more}
 use Rattle.tree.specs.Lists.{listed}
 use Rattle.tree.specs.Calls.{resetStates}
 use Rattle.tree.specs.Styles.{freshState}
 use Rattle.tree.specs.declared.StateSlot.{StateSlot}
-use lib.ListN.{length, drop, getD, set, drop-of-length-le}
+use lib.ListN.{length, drop, getD, set, length-set, drop-of-length-le}
 use mathlib.Core.List.{List}
-use mathlib.Core.Path.{_≡_, refl, _∙_}
+use mathlib.Core.Path.{_≡_, refl, sym, ap, _∙_}
 use Prim.Native.Nat.{ℕ, _-_, _+_, _<_, _≤_}
 use native.Mathlib.Omega.{arith}
 use borrow.Author.Needs.{needs}
@@ -14,10 +16,10 @@ use Rattle.tree.proofs.nodes.reset_states.Statement.{statement}
 use Rattle.tree.proofs.nodes.reset_states.Tie as tie
 
 abbrev Inv-loop : tie.InvT-loop
-Inv-loop o n out₀ k₀ out k = (k ≤ n) × (resetStates out (drop k (listed o)) ≡ resetStates out₀ (listed o))
+Inv-loop o n fresh out₀ k₀ out k = (k ≤ n) × (length out ≡ 128) × (resetStates out (drop k (listed o)) ≡ resetStates out₀ (listed o))
 
 abbrev μ-loop : tie.MeasureT-loop
-μ-loop o n out₀ k₀ out k = n - k
+μ-loop o n fresh out₀ k₀ out k = n - k
 
 reset-more : (s : List StateSlot) (l : List ℕ) (k : ℕ) {i : ℕ} {x : StateSlot} {t : List StateSlot} → k < length l → i ≡ getD l k 0 → x ≡ freshState → t ≡ set s i x → resetStates t (drop (k + 1) l) ≡ resetStates s (drop k l)
 unfolding resetStates
@@ -30,17 +32,23 @@ reset-done s l k q = rw (drop-of-length-le l q)
 listed-count-requires : tie.Need-listed-count-requires Inv-loop μ-loop
 listed-count-requires c κs = search needs
 
+fresh-state-requires : tie.Need-fresh-state-requires Inv-loop μ-loop
+fresh-state-requires c κs = search needs
+
 loop-holds : tie.Need-loop-holds Inv-loop μ-loop
-loop-holds c = (search needs, refl)
+loop-holds c = (search needs, search needs, refl)
 
 listed-at-requires : tie.Need-listed-at-requires Inv-loop μ-loop
 listed-at-requires c κs = search needs
 
-fresh-state-requires : tie.Need-fresh-state-requires Inv-loop μ-loop
-fresh-state-requires c κs = search needs
+cast-i : tie.Need-cast-i Inv-loop μ-loop
+cast-i c = search needs
 
-with-state-requires : tie.Need-with-state-requires Inv-loop μ-loop
-with-state-requires c κs = search needs
+mul-out : tie.Need-mul-out Inv-loop μ-loop
+mul-out c = search needs
+
+array-set-from-out : tie.Need-array-set-from-out Inv-loop μ-loop
+array-set-from-out c = search needs
 
 add-k : tie.Need-add-k Inv-loop μ-loop
 add-k c = search needs
@@ -50,15 +58,21 @@ loop-less c = search needs
 
 loop-again : tie.Need-loop-again Inv-loop μ-loop
 loop-again c =
-    let l = c .before .before .before .before .loop in
+    let l = c .before .before .before .loop in
     let o = c .before .before .before .before .before .before .args .o in
+    let i = c .before .listed-at .result in
     let t : l .k < length (listed o) = omega arith in
-    (search needs, reset-more _ (listed o) (l .k) t (c .before .before .listed-at .ensures) (c .before .fresh-state .ensures) (c .with-state .ensures) ∙ l .inv .1)
+    let e : c .if1 .out ≡ set (l .out) i (c .before .before .before .before .fresh-state .result) =
+    ⊎-elim (λ w. w .1) (λ w. w .1 ∙ sym (set-out (l .out) i _ (let h = w .0 .left in omega arith))) (c .if1 .came) in (
+      search needs,
+      ap length e ∙ length-set (l .out) i _ ∙ l .inv .1,
+      reset-more _ (listed o) (l .k) t (c .before .listed-at .ensures) (c .before .before .before .before .fresh-state .ensures) e ∙ l .inv .2,
+    )
 
 returns : tie.Need-returns Inv-loop μ-loop
 returns c =
-    let o = c .before .before .before .args .o in
-    let t : length (listed o) ≤ c .before .loop .k = omega arith in reset-done _ (listed o) (c .before .loop .k) t ∙ c .before .loop .inv .1
+    let o = c .before .before .before .before .args .o in
+    let t : length (listed o) ≤ c .before .loop .k = omega arith in reset-done _ (listed o) (c .before .loop .k) t ∙ c .before .loop .inv .2
 
 pub reset-states-spec : {M : Type 1} → statement M
 reset-states-spec =
@@ -67,10 +81,12 @@ reset-states-spec =
     Inv-loop
     μ-loop
     listed-count-requires
+    fresh-state-requires
     loop-holds
     listed-at-requires
-    fresh-state-requires
-    with-state-requires
+    cast-i
+    mul-out
+    array-set-from-out
     add-k
     loop-less
     loop-again

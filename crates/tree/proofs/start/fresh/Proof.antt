@@ -30,7 +30,7 @@ fresh-fields-requires c κs = search needs
 
 returns : tie.Need-returns
 unfolding fresh
-returns c = cc
+returns c = rw (c .fresh-fields .ensures, c .before .fresh-free .ensures, c .before .before .fresh-patches .ensures, c .before .before .before .fresh-states .ensures, c .before .before .before .before .fresh-outputs .ensures, c .before .before .before .before .before .fresh-interaction .ensures, c .before .before .before .before .before .before .fresh-layouts .ensures, c .before .before .before .before .before .before .before .new-slots .ensures)
 
 pub fresh-spec : {M : Type 1} → statement M
 fresh-spec =

@@ -18,7 +18,7 @@ unfolding looking withLooks
 returns c =
     let h : length (c .before .args .u .layout) ≡ 128 = sym (length-map (c .before .args .u .layout) _) ∙ c .before .good .0 .1 .1 .1 .0 .1 .0 .1 in
     let g : length (c .before .args .u .states) ≡ 128 = sym (length-map (c .before .args .u .states) _) ∙ c .before .good .0 .1 .1 .1 .1 .1 .1 .1 .1 .1 .0 .1 .0 .1 in
-    rw (bared-past (looksOf (c .before .args .u)) (c .before .args .i) (omega (arith, h, c .if1 .taken)) (omega (arith, g, c .if1 .taken))) (cc)
+    rw (bared-past (looksOf (c .before .args .u)) (c .before .args .i) (omega (arith, h, c .if1 .taken)) (omega (arith, g, c .if1 .taken)))
 
 mul-s : tie.Need-mul-s
 mul-s c = search needs
@@ -37,7 +37,7 @@ element-set-from-out c = search needs
 
 returns-2 : tie.Need-returns-2
 unfolding looking withLooks bared stateAt same
-returns-2 c = rw (eq-eqb _ _ (c .if2 .taken)) (cc)
+returns-2 c = rw (eq-eqb _ _ (c .if2 .taken), c .before .before .bare .ensures)
 
 mul-l : tie.Need-mul-l
 mul-l c = search needs
@@ -56,7 +56,7 @@ element-set-from-out-2 c = search needs
 
 returns-3 : tie.Need-returns-3
 unfolding looking withLooks bared stateAt layoutAt same
-returns-3 c = rw (ne-eqb _ _ (c .before .before .before .if2 .left)) (cc)
+returns-3 c = rw (ne-eqb _ _ (c .before .before .before .if2 .left), c .styled .ensures, c .before .before .before .before .before .bare .ensures)
 
 pub bare-at-spec : {M : Type 1} → statement M
 bare-at-spec =

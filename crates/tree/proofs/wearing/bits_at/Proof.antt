@@ -19,7 +19,7 @@ bits-of-requires : tie.Need-bits-of-requires
 bits-of-requires c κs = search needs
 
 returns : tie.Need-returns
-returns c = cc
+returns c = rw (c .bits-of .ensures, c .before .is-id3 .ensures, c .before .before .is-id2 .ensures, c .before .before .before .is-id .ensures, c .before .before .before .before .slot-at .ensures)
 
 pub bits-at-spec : {M : Type 1} → statement M
 bits-at-spec =

@@ -26,9 +26,7 @@ returns c =
     let q : 3 ≤ length (c .before .before .before .before .before .before .args .u .stated) = omega (arith, h) in
     let e = three-kept (c .before .before .before .before .before .before .args .u) (c .before .before .before .before .before .before .args .hover) (record { items = c .before .before .before .before .before .before .args .u .stated; count = 0 }) _ _ _ (c .before .before .before .before .before .before .args .u .interaction .pressed) (c .before .before .before .before .before .before .args .u .interaction .focus) q refl
     (c .before .before .before .keep-live .ensures .0) (c .before .before .keep-live2 .ensures .0) (c .before .keep-live3 .ensures .0) in
-    let e1 = ap (λ (k : Kept). k .items) e in
-    let e2 = ap (λ (k : Kept). k .count) e in
-    cc
+    rw (ap (λ (k : Kept). k .items) e, ap (λ (k : Kept). k .count) e)
 
 pub restate-spec : {M : Type 1} → statement M
 restate-spec =

@@ -17,7 +17,7 @@ unfolding withLooks
 returns c =
     let h : length (c .before .args .u .layout) ≡ 128 = sym (length-map (c .before .args .u .layout) _) ∙ c .before .good .0 .1 .1 .1 .0 .1 .0 .1 in
     let g : length (c .before .args .u .states) ≡ 128 = sym (length-map (c .before .args .u .states) _) ∙ c .before .good .0 .1 .1 .1 .1 .1 .1 .1 .1 .1 .0 .1 .0 .1 in
-    rw (styled-past (c .before .args .u) (c .before .args .i) (c .before .args .style) (omega (arith, h, c .if1 .taken)) (omega (arith, g, c .if1 .taken))) (cc)
+    rw (styled-past (c .before .args .u) (c .before .args .i) (c .before .args .style) (omega (arith, h, c .if1 .taken)) (omega (arith, g, c .if1 .taken)))
 
 mul-s : tie.Need-mul-s
 mul-s c = search needs
@@ -36,7 +36,7 @@ element-set-from-out c = search needs
 
 returns-2 : tie.Need-returns-2
 unfolding withLooks styledAt stateAt same
-returns-2 c = rw (ne-eqb _ _ (c .if2 .taken)) (cc)
+returns-2 c = rw (ne-eqb _ _ (c .if2 .taken), c .before .before .based .ensures)
 
 mul-l : tie.Need-mul-l
 mul-l c = search needs
@@ -55,7 +55,7 @@ element-set-from-out-2 c = search needs
 
 returns-3 : tie.Need-returns-3
 unfolding withLooks styledAt stateAt layoutAt same
-returns-3 c = rw (eq-eqb _ _ (c .before .before .before .if2 .left)) (cc)
+returns-3 c = rw (eq-eqb _ _ (c .before .before .before .if2 .left), c .styled .ensures, c .before .before .before .before .before .based .ensures)
 
 pub style-at-spec : {M : Type 1} → statement M
 style-at-spec =

@@ -31,7 +31,7 @@ element-set-from-out c = search needs
 
 returns : tie.Need-returns
 unfolding withLooks layoutAt
-returns c = cc
+returns c = rw (c .before .styled .ensures, c .before .before .touches2 .ensures, c .before .before .before .touches .ensures, c .before .before .before .before .patch-style .ensures)
 
 pub swap-spec : {M : Type 1} → statement M
 swap-spec =

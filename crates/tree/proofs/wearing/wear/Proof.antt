@@ -24,7 +24,7 @@ unfolding looking withLooks
 returns c =
     let h : length (c .before .before .before .before .before .args .u .layout) ≡ 128 = sym (length-map (c .before .before .before .before .before .args .u .layout) _) ∙ c .before .before .before .before .before .good .0 .1 .1 .1 .0 .1 .0 .1 in
     let g : length (c .before .before .before .before .before .args .u .states) ≡ 128 = sym (length-map (c .before .before .before .before .before .args .u .states) _) ∙ c .before .before .before .before .before .good .0 .1 .1 .1 .1 .1 .1 .1 .1 .1 .0 .1 .0 .1 in
-    rw (wear-past (poolOf (c .before .before .before .before .before .args .u)) (looksOf (c .before .before .before .before .before .args .u)) (c .before .before .before .before .before .args .i) (c .before .before .before .before .before .args .bits) (omega (arith, h, c .before .before .before .if1 .taken)) (omega (arith, g, c .before .before .before .if1 .taken))) (cc)
+    rw (wear-past (poolOf (c .before .before .before .before .before .args .u)) (looksOf (c .before .before .before .before .before .args .u)) (c .before .before .before .before .before .args .i) (c .before .before .before .before .before .args .bits) (omega (arith, h, c .before .before .before .if1 .taken)) (omega (arith, g, c .before .before .before .if1 .taken)), c .before .before .touches .ensures, c .before .touches2 .ensures)
 
 mul-s : tie.Need-mul-s
 mul-s c = search needs
@@ -46,7 +46,7 @@ element-set-from-out c = search needs
 
 returns-2 : tie.Need-returns-2
 unfolding looking withLooks wear stateAt same
-returns-2 c = rw (← c .before .before .before .entry-of .ensures, eq-eqb _ _ (c .if2 .taken)) (cc)
+returns-2 c = rw (← c .before .before .before .entry-of .ensures, eq-eqb _ _ (c .if2 .taken), c .before .before .worn .ensures)
 
 swap-requires : tie.Need-swap-requires
 swap-requires c κs = search needs

@@ -1,0 +1,71 @@
+-- By the kind of the event. Assumes nothing.
+use mir.Syntax.{w32}
+use mir.ValLaws.{toZ-ofZ}
+use borrow.Author.Needs.{needs}
+use Rattle.desk.proofs.events.heard.Statement.{statement}
+use Rattle.desk.proofs.events.heard.Tie as tie
+
+enum-known-event : tie.Need-enum-known-event
+enum-known-event c = search needs
+
+point-requires : tie.Need-point-requires
+point-requires c κs = search needs
+
+enum-told : tie.Need-enum-told
+enum-told c = search needs
+
+press-requires : tie.Need-press-requires
+press-requires c κs = search needs
+
+enum-told-2 : tie.Need-enum-told-2
+enum-told-2 c = search needs
+
+release-requires : tie.Need-release-requires
+release-requires c κs = search needs
+
+enum-known-event-2 : tie.Need-enum-known-event-2
+enum-known-event-2 c = search needs
+
+edit-focused-requires : tie.Need-edit-focused-requires
+edit-focused-requires c κs = search needs
+
+enum-known-event-3 : tie.Need-enum-known-event-3
+enum-known-event-3 c = search needs
+
+edit-focused-requires-2 : tie.Need-edit-focused-requires-2
+edit-focused-requires-2 c κs = search needs
+
+returns : tie.Need-returns
+returns c = rw (c .before .before .event .given .1, ← toZ-ofZ w32 (c .before .before .event .given .0 .0) (record { sfits = c .before .known-told .given .0 .1 }), ← toZ-ofZ w32 (c .before .before .event .given .0 .1 .0) (record { sfits = c .before .known-told .given .1 .0 .1 })) (c .point .ensures)
+
+returns-2 : tie.Need-returns-2
+returns-2 c = rw (c .before .enum-told .given .1) (c .press .ensures)
+
+returns-3 : tie.Need-returns-3
+returns-3 c = rw (c .before .enum-told2 .given .1) (c .release .ensures)
+
+returns-4 : tie.Need-returns-4
+returns-4 c = rw (c .before .before .event2 .given .1) (c .edit-focused .ensures)
+
+returns-5 : tie.Need-returns-5
+returns-5 c = rw (c .before .before .event3 .given .1) (c .edit-focused2 .ensures)
+
+pub heard-spec : {M : Type 1} → statement M
+heard-spec =
+    tie.close
+    (tie.spec
+    enum-known-event
+    point-requires
+    enum-told
+    press-requires
+    enum-told-2
+    release-requires
+    enum-known-event-2
+    edit-focused-requires
+    enum-known-event-3
+    edit-focused-requires-2
+    returns
+    returns-2
+    returns-3
+    returns-4
+    returns-5)
