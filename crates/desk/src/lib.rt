@@ -51,7 +51,7 @@ pub enum Fingerprint {
 }
 
 // An event, and the bits refreshed after it.
-pub fn handle(u: Ui, event: UiEvent) -> Changed
+pub fn handle(mut u: Ui, event: UiEvent) -> Changed
     ensures { λ r. ⌜ changedOf r ≡ calls.handle u event ⌝ }
 {
     if rules::broken(u) {
@@ -63,14 +63,14 @@ pub fn handle(u: Ui, event: UiEvent) -> Changed
     let interaction = u.interaction;
     let pixel = interaction.pointer;
     let hit = input::hit_test(u, pixel);
-    let heard = events::heard(u, hit, event);
-    let after = heard.interaction;
+    u = events::heard(u, hit, event);
+    let after = u.interaction;
     let place = after.pointer;
-    let hover = input::hit_test(heard, place);
-    let next = wearing::refresh_states(heard, hover);
+    let hover = input::hit_test(u, place);
+    u = wearing::refresh_states(u, hover);
     Changed {
         verdict: Verdict::Accepted,
-        tree: next,
+        tree: u,
     }
 }
 

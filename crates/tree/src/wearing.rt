@@ -70,25 +70,6 @@ fn styled(l: LayoutSlot, style: Style) -> LayoutSlot
     out
 }
 
-// Slot i swaps one patch for another over a base style; a pass is due if either moves boxes.
-fn swap(u: Ui, i: u32, from: u16, to: u16, base: Style) -> Ui
-    requires { ⌜ i < 128 ⌝ }
-    ensures { λ r. ⌜ r ≡ withLooks u (set (u .layout) i (withStyle (layoutAt (u .layout) i) (patchStyle (poolOf u) to base))) (u .states) (u .dirty || (states.touches (poolOf u) from || states.touches (poolOf u) to)) ⌝ }
-{
-    let patches = u.patches;
-    let count = u.patch_count;
-    let layout = u.layout;
-    let k = i as usize;
-    let l = layout[k];
-    let style = state::patch_style(patches, count, to, base);
-    let before = state::touches(patches, count, from);
-    let after = state::touches(patches, count, to);
-    let mut out = u;
-    out.layout[k] = styled(l, style);
-    out.dirty = u.dirty | (before | after);
-    out
-}
-
 // Slot i wears what its table has for the bits. Past the slots nothing is stored: what is read there wears patch 0.
 pub(crate) fn wear(u: Ui, i: u32, bits: u8) -> Ui
     ensures { λ r. ⌜ r ≡ looking u (states.wear (poolOf u) (looksOf u) i bits) ⌝ }
@@ -112,7 +93,14 @@ pub(crate) fn wear(u: Ui, i: u32, bits: u8) -> Ui
         return out;
     }
     let base = s.base;
-    swap(out, i, s.applied, next, base)
+    let layout = u.layout;
+    let l = layout[k];
+    let style = state::patch_style(patches, count, next, base);
+    let before = state::touches(patches, count, s.applied);
+    let after = state::touches(patches, count, next);
+    out.layout[k] = styled(l, style);
+    out.dirty = u.dirty | (before | after);
+    out
 }
 
 // The state slot with another base style.
@@ -247,14 +235,14 @@ fn wear_bits(u: Ui, hover: MaybeId, asked: bool, i: u32) -> Ui
 }
 
 // Every stated slot does, from the last.
-fn wear_stated(u: Ui, hover: MaybeId) -> Ui
+fn wear_stated(mut u: Ui, hover: MaybeId) -> Ui
     ensures { λ r. ⌜ r ≡ wornAll u hover (backwards (statedOf u)) ⌝ }
 {
     let stated = u.stated;
     let count = u.stated_count;
-    let third = wear_bits(u, hover, 2 < count, stated[2]);
-    let second = wear_bits(third, hover, 1 < count, stated[1]);
-    wear_bits(second, hover, 0 < count, stated[0])
+    u = wear_bits(u, hover, 2 < count, stated[2]);
+    u = wear_bits(u, hover, 1 < count, stated[1]);
+    wear_bits(u, hover, 0 < count, stated[0])
 }
 
 // The slot of an id that is live does.
@@ -273,16 +261,16 @@ fn wear_live(u: Ui, hover: MaybeId, id: MaybeId) -> Ui
 }
 
 // The stated slots, then the nodes hovered, pressed and in focus wear their bits.
-fn wear_again(u: Ui, hover: MaybeId) -> Ui
+fn wear_again(mut u: Ui, hover: MaybeId) -> Ui
     ensures { λ r. ⌜ r ≡ wornAll u hover (backwards (statedOf u) ++ (slotIn u hover ++ slotIn u (u .interaction .pressed) ++ slotIn u (u .interaction .focus))) ⌝ }
 {
     let interaction = u.interaction;
     let pressed = interaction.pressed;
     let focus = interaction.focus;
-    let stated = wear_stated(u, hover);
-    let hovered = wear_live(stated, hover, hover);
-    let held = wear_live(hovered, hover, pressed);
-    wear_live(held, hover, focus)
+    u = wear_stated(u, hover);
+    u = wear_live(u, hover, hover);
+    u = wear_live(u, hover, pressed);
+    wear_live(u, hover, focus)
 }
 
 // Whether slot i is not kept.
@@ -366,9 +354,9 @@ fn restate(u: Ui, hover: MaybeId) -> Ui
 }
 
 // Every stated slot, then the nodes hovered, pressed and in focus wear their bits; those of the three with bits are stated.
-pub fn refresh_states(u: Ui, hover: MaybeId) -> Ui
+pub fn refresh_states(mut u: Ui, hover: MaybeId) -> Ui
     ensures { λ r. ⌜ r ≡ refreshed u hover ⌝ }
 {
-    let worn = wear_again(u, hover);
-    restate(worn, hover)
+    u = wear_again(u, hover);
+    restate(u, hover)
 }

@@ -6,7 +6,7 @@ use borrow.Author.Tests.{eq-eqb, ne-eqb}
 use Rattle.tree.proofs.Wearings.{wear-past}
 use Rattle.tree.specs.States.{wear, looksOf}
 use Rattle.tree.specs.Tests.{same}
-use Rattle.tree.specs.Styles.{stateAt}
+use Rattle.tree.specs.Styles.{layoutAt, stateAt}
 use Rattle.tree.specs.Trees.{poolOf, withLooks}
 use Rattle.tree.specs.Wearing.{looking}
 use borrow.Author.Needs.{needs}
@@ -21,8 +21,7 @@ touches-requires-2 c κs = search needs
 
 returns : tie.Need-returns
 unfolding looking withLooks
-returns c =
-    let h : length (c .before .before .before .before .before .args .u .layout) ≡ 128 = sym (length-map (c .before .before .before .before .before .args .u .layout) _) ∙ c .before .before .before .before .before .good .0 .1 .1 .1 .0 .1 .0 .1 in
+returns c = let h : length (c .before .before .before .before .before .args .u .layout) ≡ 128 = sym (length-map (c .before .before .before .before .before .args .u .layout) _) ∙ c .before .before .before .before .before .good .0 .1 .1 .1 .0 .1 .0 .1 in
     let g : length (c .before .before .before .before .before .args .u .states) ≡ 128 = sym (length-map (c .before .before .before .before .before .args .u .states) _) ∙ c .before .before .before .before .before .good .0 .1 .1 .1 .1 .1 .1 .1 .1 .1 .0 .1 .0 .1 in
     rw (wear-past (poolOf (c .before .before .before .before .before .args .u)) (looksOf (c .before .before .before .before .before .args .u)) (c .before .before .before .before .before .args .i) (c .before .before .before .before .before .args .bits) (omega (arith, h, c .before .before .before .if1 .taken)) (omega (arith, g, c .before .before .before .if1 .taken)), c .before .before .touches .ensures, c .before .touches2 .ensures)
 
@@ -38,8 +37,8 @@ entry-of-requires c κs = search needs
 worn-requires : tie.Need-worn-requires
 worn-requires c κs = search needs
 
-mul-t18 : tie.Need-mul-t18
-mul-t18 c = search needs
+mul-t23 : tie.Need-mul-t23
+mul-t23 c = search needs
 
 element-set-from-out : tie.Need-element-set-from-out
 element-set-from-out c = search needs
@@ -48,12 +47,33 @@ returns-2 : tie.Need-returns-2
 unfolding looking withLooks wear stateAt same
 returns-2 c = rw (← c .before .before .before .entry-of .ensures, eq-eqb _ _ (c .if2 .taken), c .before .before .worn .ensures)
 
-swap-requires : tie.Need-swap-requires
-swap-requires c κs = search needs
+mul-l : tie.Need-mul-l
+mul-l c = search needs
+
+array-copy-out-l : tie.Need-array-copy-out-l
+array-copy-out-l c = search needs
+
+patch-style-requires : tie.Need-patch-style-requires
+patch-style-requires c κs = search needs
+
+touches-requires-3 : tie.Need-touches-requires-3
+touches-requires-3 c κs = search needs
+
+touches-requires-4 : tie.Need-touches-requires-4
+touches-requires-4 c κs = search needs
+
+styled-requires : tie.Need-styled-requires
+styled-requires c κs = search needs
+
+mul-t23-2 : tie.Need-mul-t23-2
+mul-t23-2 c = let h = c .before .before .before .before .before .before .before .before .before .before .before .before .before .before .if1 .left in search needs
+
+element-set-from-out-2 : tie.Need-element-set-from-out-2
+element-set-from-out-2 c = let h = c .before .before .before .before .before .before .before .before .before .before .before .before .before .before .if1 .left in search needs
 
 returns-3 : tie.Need-returns-3
-unfolding looking withLooks wear stateAt same
-returns-3 c = rw (← c .before .before .before .before .before .entry-of .ensures, ne-eqb _ _ (c .before .before .if2 .left), ← c .before .before .before .before .worn .ensures) (c .swap .ensures)
+unfolding looking withLooks wear layoutAt stateAt same
+returns-3 c = rw (← c .before .before .before .before .before .before .before .before .before .before .before .entry-of .ensures, ne-eqb _ _ (c .before .before .before .before .before .before .before .before .if2 .left), ← c .before .before .before .before .before .before .before .before .before .before .worn .ensures, c .before .styled .ensures, c .before .before .touches4 .ensures, c .before .before .before .touches3 .ensures, c .before .before .before .before .patch-style .ensures)
 
 pub wear-spec : {M : Type 1} → statement M
 wear-spec =
@@ -66,8 +86,15 @@ wear-spec =
     array-copy-out-s
     entry-of-requires
     worn-requires
-    mul-t18
+    mul-t23
     element-set-from-out
     returns-2
-    swap-requires
+    mul-l
+    array-copy-out-l
+    patch-style-requires
+    touches-requires-3
+    touches-requires-4
+    styled-requires
+    mul-t23-2
+    element-set-from-out-2
     returns-3)
