@@ -6,6 +6,7 @@ pub mod PointerSteps
 pub mod KeySteps
 pub mod FoldSteps
 pub mod OutputSteps
+pub mod Runs
 pub mod CallSteps
 pub mod Demand3
 pub mod Corollaries

@@ -39,6 +39,7 @@ pub mod LookParts
 pub mod GivenIds
 pub mod InsertParts
 pub mod CallParts
+pub mod Runs
 pub mod RemoveParts
 pub mod NotBroken
 pub mod FieldParts

@@ -3,7 +3,7 @@ ghost use mathlib.Core.Path.{_≡_};
 ghost use Prim.Native.Nat.{ℕ, _+_};
 ghost use mathlib.Core.Bool.{_&&_};
 ghost use lib.Dec.{ltb};
-ghost use Rattle.tree.specs.Tests.{pick, same, δ, occ, all, fromTo};
+ghost use Rattle.tree.specs.Tests.{same, δ, occ, all, fromTo};
 ghost use Rattle.tree.specs.Slots.{NIL, at};
 ghost use Rattle.tree.specs.Lists.{listed};
 ghost use Rattle.tree.specs.Rules as rules;

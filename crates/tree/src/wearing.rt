@@ -1,17 +1,16 @@
 // What nodes wear: styles, tables and the pool over the whole tree, by the bits of each node.
 ghost use mathlib.Core.Path.{_≡_};
-ghost use mathlib.Core.Bool.{_||_};
 ghost use Prim.Native.Nat.{_+_, _<_, _≤_};
 ghost use mathlib.Core.List.{[], _∷_, _++_};
-ghost use lib.ListN.{set, take};
+ghost use lib.ListN.{take};
 ghost use Rattle.tree.specs.Slots.{idAt};
-ghost use Rattle.tree.specs.States.{isId, bitsOf, patchStyle, wearing, withStyle, looksOf, styledAt, tabledAt, bared, bareAll, backwards, slotIn, bearing, refreshed};
-ghost use Rattle.tree.specs.Styles.{bareState, layoutAt};
+ghost use Rattle.tree.specs.States.{isId, bitsOf, wearing, withStyle, looksOf, styledAt, tabledAt, bared, bareAll, backwards, slotIn, bearing, refreshed};
+ghost use Rattle.tree.specs.Styles.{bareState};
 ghost use Rattle.tree.specs.Tests.{pick, same, occ, fromTo};
 ghost use Rattle.tree.specs.Calls.{pooled};
 ghost use Rattle.tree.specs.Wearing.{looking, wornAll, keptMore, keptLive};
 ghost use Rattle.tree.specs.States as states;
-ghost use Rattle.tree.specs.Trees.{poolOf, statedOf, withLooks, withStated};
+ghost use Rattle.tree.specs.Trees.{poolOf, statedOf, withStated};
 use crate::LayoutSlot;
 use crate::Slot;
 use crate::StatePatch;

@@ -1,0 +1,71 @@
+-- Short runs by the definitions, with the source's answers: each side computes. Assumes nothing.
+use Prim.Native.Nat.{ℕ}
+use mathlib.Core.Path.{_≡_, refl}
+use mathlib.Core.List.{List, [], _∷_, _++_}
+use lib.IntN.{pos}
+use Rattle.field.specs.declared.NodeId.{NodeId}
+use Rattle.arithmetic.specs.Scalar.{stop, addSat, subSat, gapTimes, maxOf, unsignedOf}
+use Rattle.arithmetic.specs.Growth.{sumTo, comesBefore, rank, growSum, planGrowth}
+use Rattle.arithmetic.specs.Fold.{emptyHash, fnvByte, foldBytes, lowBytes, absorbed}
+use Rattle.text.specs.Choice.{within}
+use Rattle.text.specs.Utf8.{isScalar, allScalars, encoded, encodedAll, encodedAs}
+use Rattle.text.specs.Reader.{leadOf, stepOf, runFrom, isUtf8, scalarsFrom, scalars}
+use Rattle.text.specs.Steps.{backOf, front, stepBack, stepForward}
+use Rattle.field.specs.Fields.{emptyField, inRange, fieldOk, moved, cutOut, putIn, stepBackOf, stepForwardOf, editedIn, edited, inserted, editAnswer, insertAnswer, shownOf, textOf, withText}
+use Rattle.tree.specs.Tests.{same, δ}
+use Rattle.tree.specs.Trees.{withNodes, withLooks, withPool, withStated, withFields, withPass, withInteraction, withWaiting}
+use Rattle.tree.specs.Slots.{at, put, change, isLive, chain, chainBack, kidsAt, order, linkAfter, linkLast, unlinkFrom, unlink, freeOrder, freeing, aged, freed}
+use Rattle.tree.specs.Styles.{layoutAt, stateAt}
+use Rattle.tree.specs.States.{entryOf, patchStyle, touches, inPool, wear, bitsOf, bitsAt, wearAll, slotIn, bearing, refreshed, styledAt, tabledAt, bared, bareAll}
+use Rattle.tree.specs.Layout.{outer, summed, content, want, offset, total, boxes, place, measureAt, measureAll, setRects, arrangeAt, arrangeAll, passed, holds}
+use Rattle.tree.specs.Hit.{lastOf, descend, holdsAt, hitTest}
+use Rattle.tree.specs.Fields.{fieldOf, reclaimed, claimed}
+use Rattle.tree.specs.Rules.{kidsWell, nodeWell, freeWell, eachOnce, linksWell, stateWell, distinct, ownersWell, broken}
+use Rattle.tree.specs.Calls as tree-Calls
+use Rattle.tree.specs.Calls.{guarded, onLive, newSlot, newSlots, fresh, newTree, insertAt, resetStates, removeAt, pooled, onField}
+use Rattle.desk.specs.Events as desk-Events
+use Rattle.desk.specs.Events.{activated, activate, editFold, hitOf, handled}
+use Rattle.desk.specs.Demand3.{step, run, follow}
+use Rattle.tree.specs.Nodes.{wears, swaps, bitsFor, restyled, bare}
+use Rattle.desk.specs.History.{Call, History, limitFrom, start, textSaid, caretSaid, metresSaid, rectSaid, judge, refresh, grown, accept, note}
+use Rattle.desk.specs.History.Call.{insert, makeField, solve, handle}
+use Rattle.desk.specs.declared.UiEvent.the-variants.{PointerMoved, PointerPressed, PointerReleased}
+
+-- The root of a tree of one node is pressed and released; or the pointer leaves it before the release.
+abbrev press : List Call
+press =
+    solve (record { width = pos 655360; height = pos 655360 }) ∷ handle (PointerMoved (pos 3) (pos 3)) ∷ handle PointerPressed ∷ []
+
+abbrev hit : List Call
+hit = press ++ handle PointerReleased ∷ []
+
+abbrev missed : List Call
+missed = press ++ handle (PointerMoved (pos 30) (pos 3)) ∷ handle PointerReleased ∷ []
+
+-- The fingerprint after each.
+pub an-activation-is-counted-and-folded : desk-Events.absorb (run (newTree 1 .next) hit) emptyHash .answer .value ≡ 0x4d83095371ad4056
+unfolding stop addSat subSat gapTimes maxOf unsignedOf sumTo comesBefore rank growSum planGrowth fnvByte foldBytes lowBytes absorbed within isScalar allScalars encoded encodedAll encodedAs leadOf stepOf runFrom isUtf8 scalarsFrom scalars backOf front stepBack stepForward emptyField inRange fieldOk moved cutOut putIn stepBackOf stepForwardOf editedIn edited inserted editAnswer insertAnswer shownOf textOf withText same δ withNodes withLooks withPool withStated withFields withPass withInteraction withWaiting at put change isLive chain chainBack kidsAt order linkAfter linkLast unlinkFrom unlink freeOrder freeing aged freed layoutAt stateAt entryOf patchStyle touches inPool wear bitsOf bitsAt wearAll slotIn bearing refreshed styledAt tabledAt bared bareAll outer summed content want offset total boxes place measureAt measureAll setRects arrangeAt arrangeAll passed holds lastOf descend holdsAt hitTest fieldOf reclaimed claimed kidsWell nodeWell freeWell eachOnce linksWell stateWell distinct ownersWell broken guarded onLive newSlot newSlots fresh newTree insertAt tree-Calls.insert resetStates removeAt tree-Calls.remove tree-Calls.setStyle tree-Calls.setStateTable pooled tree-Calls.setPatchPool tree-Calls.makeField onField tree-Calls.fieldText tree-Calls.fieldCursor tree-Calls.solve tree-Calls.rect tree-Calls.live tree-Calls.firstChild tree-Calls.nextSibling activated activate editFold hitOf handled desk-Events.handle desk-Events.nextOutput desk-Events.absorb desk-Events.metres step
+an-activation-is-counted-and-folded = refl
+
+pub a-release-elsewhere-activates-nothing : desk-Events.absorb (run (newTree 1 .next) missed) emptyHash .answer .value ≡ 0x6f4748bc953e3ee0
+unfolding stop addSat subSat gapTimes maxOf unsignedOf sumTo comesBefore rank growSum planGrowth fnvByte foldBytes lowBytes absorbed within isScalar allScalars encoded encodedAll encodedAs leadOf stepOf runFrom isUtf8 scalarsFrom scalars backOf front stepBack stepForward emptyField inRange fieldOk moved cutOut putIn stepBackOf stepForwardOf editedIn edited inserted editAnswer insertAnswer shownOf textOf withText same δ withNodes withLooks withPool withStated withFields withPass withInteraction withWaiting at put change isLive chain chainBack kidsAt order linkAfter linkLast unlinkFrom unlink freeOrder freeing aged freed layoutAt stateAt entryOf patchStyle touches inPool wear bitsOf bitsAt wearAll slotIn bearing refreshed styledAt tabledAt bared bareAll outer summed content want offset total boxes place measureAt measureAll setRects arrangeAt arrangeAll passed holds lastOf descend holdsAt hitTest fieldOf reclaimed claimed kidsWell nodeWell freeWell eachOnce linksWell stateWell distinct ownersWell broken guarded onLive newSlot newSlots fresh newTree insertAt tree-Calls.insert resetStates removeAt tree-Calls.remove tree-Calls.setStyle tree-Calls.setStateTable pooled tree-Calls.setPatchPool tree-Calls.makeField onField tree-Calls.fieldText tree-Calls.fieldCursor tree-Calls.solve tree-Calls.rect tree-Calls.live tree-Calls.firstChild tree-Calls.nextSibling activated activate editFold hitOf handled desk-Events.handle desk-Events.nextOutput desk-Events.absorb desk-Events.metres step
+a-release-elsewhere-activates-nothing = refl
+
+-- Eight nodes below the root, of which seven get a field.
+abbrev eight : List ℕ
+eight = 1 ∷ 2 ∷ 3 ∷ 4 ∷ 5 ∷ 6 ∷ 7 ∷ 8 ∷ []
+
+abbrev nodeOf : ℕ → NodeId
+nodeOf i = record { index = i; generation = 1 }
+
+abbrev grow : History → List ℕ → History
+grow h [] = h
+grow h (i ∷ is) = grow (note h (insert (nodeOf 0)) (nodeOf i)) is
+
+abbrev fields : History → List ℕ → History
+fields h [] = h
+fields h (i ∷ is) = fields (note h (makeField (nodeOf i)) (nodeOf 0)) is
+
+pub the-eighth-field-is-accepted : judge (fields (grow (start 9) eight) (1 ∷ 2 ∷ 3 ∷ 4 ∷ 5 ∷ 6 ∷ 7 ∷ [])) (makeField (nodeOf 8)) ≡ 0
+unfolding same δ entryOf patchStyle touches inPool wear bitsOf bitsAt wearAll slotIn bearing refreshed styledAt tabledAt bared bareAll wears swaps bitsFor restyled bare limitFrom start textSaid caretSaid metresSaid rectSaid judge refresh grown accept note
+the-eighth-field-is-accepted = refl
