@@ -31,21 +31,21 @@ use Rattle.desk.specs.History.{Call, History, limitFrom, start, textSaid
 use Rattle.desk.specs.History.Call.{insert, makeField, solve, handle}
 use Rattle.desk.specs.declared.UiEvent.the-variants.{PointerMoved, PointerPressed, PointerReleased}
 
--- The root of a tree of one node is pressed and released; or the pointer leaves it before the release.
+-- The root of a tree of one node is pressed and released, twice; or the pointer leaves it before the release.
 abbrev press : List Call
 press =
     solve (record { width = pos 655360; height = pos 655360 }) ∷ handle (PointerMoved (pos 3) (pos 3)) ∷ handle PointerPressed ∷ []
 
 abbrev hit : List Call
-hit = press ++ handle PointerReleased ∷ []
+hit = press ++ handle PointerReleased ∷ handle PointerPressed ∷ handle PointerReleased ∷ []
 
 abbrev missed : List Call
 missed = press ++ handle (PointerMoved (pos 30) (pos 3)) ∷ handle PointerReleased ∷ []
 
 -- The fingerprint after each.
-pub an-activation-is-counted-and-folded : desk-Events.absorb (run (newTree 1 .next) hit) emptyHash .answer .value ≡ 0x4d83095371ad4056
+pub activations-are-counted-and-folded : desk-Events.absorb (run (newTree 1 .next) hit) emptyHash .answer .value ≡ 0x753ea3e4669d35a9
 unfolding stop addSat subSat gapTimes maxOf unsignedOf sumTo comesBefore rank growSum planGrowth fnvByte foldBytes lowBytes absorbed within isScalar allScalars encoded encodedAll encodedAs leadOf stepOf runFrom isUtf8 scalarsFrom scalars backOf front stepBack stepForward emptyField inRange fieldOk moved cutOut putIn stepBackOf stepForwardOf editedIn edited inserted editAnswer insertAnswer shownOf textOf withText same δ withNodes withLooks withPool withStated withFields withPass withInteraction withWaiting at put change isLive chain chainBack kidsAt order linkAfter linkLast unlinkFrom unlink freeOrder freeing aged freed layoutAt stateAt entryOf patchStyle touches inPool wear bitsOf bitsAt wearAll slotIn bearing refreshed styledAt tabledAt bared bareAll outer summed content want offset total boxes place measureAt measureAll setRects arrangeAt arrangeAll passed holds lastOf descend holdsAt hitTest fieldOf reclaimed claimed kidsWell nodeWell freeWell eachOnce linksWell stateWell distinct ownersWell broken guarded onLive newSlot newSlots fresh newTree insertAt tree-Calls.insert resetStates removeAt tree-Calls.remove tree-Calls.setStyle tree-Calls.setStateTable pooled tree-Calls.setPatchPool tree-Calls.makeField onField tree-Calls.fieldText tree-Calls.fieldCursor tree-Calls.solve tree-Calls.rect tree-Calls.live tree-Calls.firstChild tree-Calls.nextSibling activated activate editFold hitOf handled desk-Events.handle desk-Events.nextOutput desk-Events.absorb desk-Events.metres step
-an-activation-is-counted-and-folded = refl
+activations-are-counted-and-folded = refl
 
 pub a-release-elsewhere-activates-nothing : desk-Events.absorb (run (newTree 1 .next) missed) emptyHash .answer .value ≡ 0x6f4748bc953e3ee0
 unfolding stop addSat subSat gapTimes maxOf unsignedOf sumTo comesBefore rank growSum planGrowth fnvByte foldBytes lowBytes absorbed within isScalar allScalars encoded encodedAll encodedAs leadOf stepOf runFrom isUtf8 scalarsFrom scalars backOf front stepBack stepForward emptyField inRange fieldOk moved cutOut putIn stepBackOf stepForwardOf editedIn edited inserted editAnswer insertAnswer shownOf textOf withText same δ withNodes withLooks withPool withStated withFields withPass withInteraction withWaiting at put change isLive chain chainBack kidsAt order linkAfter linkLast unlinkFrom unlink freeOrder freeing aged freed layoutAt stateAt entryOf patchStyle touches inPool wear bitsOf bitsAt wearAll slotIn bearing refreshed styledAt tabledAt bared bareAll outer summed content want offset total boxes place measureAt measureAll setRects arrangeAt arrangeAll passed holds lastOf descend holdsAt hitTest fieldOf reclaimed claimed kidsWell nodeWell freeWell eachOnce linksWell stateWell distinct ownersWell broken guarded onLive newSlot newSlots fresh newTree insertAt tree-Calls.insert resetStates removeAt tree-Calls.remove tree-Calls.setStyle tree-Calls.setStateTable pooled tree-Calls.setPatchPool tree-Calls.makeField onField tree-Calls.fieldText tree-Calls.fieldCursor tree-Calls.solve tree-Calls.rect tree-Calls.live tree-Calls.firstChild tree-Calls.nextSibling activated activate editFold hitOf handled desk-Events.handle desk-Events.nextOutput desk-Events.absorb desk-Events.metres step
