@@ -9,3 +9,5 @@ pub mod Parts
 pub mod Edits
 pub mod Laws
 pub mod Examples
+pub mod Lending
+pub mod LentHere

@@ -8,6 +8,7 @@ ghost use Prim.Native.Nat.{_≤_};
 ghost use Rattle.field.specs.Fields.{emptyField, inRange, fieldOk, cutOut, moved, inserted, edited, shownOf, editAnswer, insertAnswer, answerOf, stepBackOf, stepForwardOf};
 ghost use Rattle.field.specs.Metres.{fieldMetres};
 ghost use Rattle.field.specs.Metres as reading;
+ghost use Rattle.text.specs.Refusal.{verdictOf};
 use text::refusal::Refusal;
 use text::refusal::Verdict;
 use text::utf8;
@@ -201,6 +202,48 @@ impl Field {
         Edited {
             verdict: Verdict::Accepted,
             field: self.edit(op),
+        }
+    }
+
+    // A character, put into a field that is lent: the answer of `try_insert` is returned, and its field left behind the reference, so
+    // that a field that breaks the rules stays byte for byte as it was. A tree whose own field a caller edits so is no longer the one
+    // that its last call left: the next call checks it as it checks any tree, and takes a field that keeps the rules as it is.
+    pub fn insert_lent(&mut self, ch: u32) -> Verdict
+        ensures { λ r. ⌜ (verdictOf r ≡ insertAnswer (now (self .entry)) ch .number) × (now (self .exit) ≡ insertAnswer (now (self .entry)) ch .value) ⌝ }
+    {
+        let out = self.try_insert(ch);
+        *self = out.field;
+        out.verdict
+    }
+
+    // An edit of a field that is lent, likewise by `try_edit`.
+    pub fn edit_lent(&mut self, op: EditOp) -> Verdict
+        ensures { λ r. ⌜ (verdictOf r ≡ editAnswer (now (self .entry)) op .number) × (now (self .exit) ≡ editAnswer (now (self .entry)) op .value) ⌝ }
+    {
+        let out = self.try_edit(op);
+        *self = out.field;
+        out.verdict
+    }
+
+    // A character, put in by lending a field of one's own: who calls this needs no reference.
+    pub fn insert_here(mut self, ch: u32) -> Edited
+        ensures { λ r. ⌜ answerOf r ≡ insertAnswer self ch ⌝ }
+    {
+        let verdict = self.insert_lent(ch);
+        Edited {
+            verdict,
+            field: self,
+        }
+    }
+
+    // An edit by lending a field of one's own, likewise.
+    pub fn edit_here(mut self, op: EditOp) -> Edited
+        ensures { λ r. ⌜ answerOf r ≡ editAnswer self op ⌝ }
+    {
+        let verdict = self.edit_lent(op);
+        Edited {
+            verdict,
+            field: self,
         }
     }
 
