@@ -44,12 +44,12 @@ use Rattle.text.specs.declared.refusal.Verdict.{Verdict}
 use Rattle.field.specs.Fields.{answerOf}
 use Rattle.field.specs.declared.Field.{Field}
 use Rattle.field.specs.declared.Edited.{Edited}
-use Rattle.text.proofs.refusal.Verdict as S
-use Rattle.text.proofs.refusal.Verdict.Laws as S′
-use Rattle.field.proofs.Field as T
-use Rattle.field.proofs.Field.Laws as T′
-use Rattle.field.proofs.Edited as L
-use Rattle.field.proofs.Edited.Laws as L′
+use Rattle.text.proofs.refusal.Verdict as verdicts
+use Rattle.text.proofs.refusal.Verdict.Laws as verdicts′
+use Rattle.field.proofs.Field as fields
+use Rattle.field.proofs.Field.Laws as fields′
+use Rattle.field.proofs.Edited as answers
+use Rattle.field.proofs.Edited.Laws as answers′
 use Rattle.field.proofs.Lending.{Arg, silent, vals, said, said-at-low, ended, clauses}
 
 -- The MIR: _3 = _1; _5 = &_3; _4 = g(_5, _2); _6 = _3; _0 = (_4, _6); return.
@@ -58,7 +58,7 @@ here-shape g τ = record {
   lifetimes = 0;
   outlives = [];
   params = 2;
-  locals = local L′.mir valueLocal ∷ local T′.mir valueLocal ∷ local τ valueLocal ∷ local T′.mir memorySlot ∷ local S′.mir valueLocal ∷ local (tyRef erased mut (pointee (T.the-row .written))) valueLocal ∷ local T′.mir valueLocal ∷ [];
+  locals = local answers′.mir valueLocal ∷ local fields′.mir valueLocal ∷ local τ valueLocal ∷ local fields′.mir memorySlot ∷ local verdicts′.mir valueLocal ∷ local (tyRef erased mut (pointee (fields.the-row .written))) valueLocal ∷ local fields′.mir valueLocal ∷ [];
   body = seq (assign (place 3 []) (rvOpd (copy (place 1 []))))
       (seq (assign (place 5 []) (addrOf (place 3 [])))
       (seq (call g (copy (place 5 []) ∷ copy (place 2 []) ∷ []) (place 4 []))
@@ -67,7 +67,7 @@ here-shape g τ = record {
 }
 
 abbrev outs : Edited → List Val
-outs r = L′.lowered r ∷ []
+outs r = answers′.lowered r ∷ []
 
 -- A number and a field that are an answer's make the answer.
 both : (a : Answer Field) {k : ℕ} {d : Field} → (k ≡ a .number) × (d ≡ a .value) → _≡_ {A = Answer Field} (record { number = k; value = d }) a
@@ -75,24 +75,24 @@ both a {k} {d} e = ap (λ (m : ℕ). record { number = m; value = d }) (e .0) �
 
 module _ {M : Type 1} (𝓤 : URA M) (H : Heap 𝓤) (A : Atoms 𝓤) (W : Given 𝓤 H A) where
   -- A field in a local is a field that lies in memory, and the other way.
-  part-in : (d : Field) → Is T.the-row d (vals d) → (l : ℕ) → ent 𝓤 (sem 𝓤 H A (fat fullShare T′.mir l 0 (T′.lowered d))) (sem 𝓤 H A (partAt T.the-row fullShare d l 0))
+  part-in : (d : Field) → Is fields.the-row d (vals d) → (l : ℕ) → ent 𝓤 (sem 𝓤 H A (fat fullShare fields′.mir l 0 (fields′.lowered d))) (sem 𝓤 H A (partAt fields.the-row fullShare d l 0))
   unfolding partOf
   part-in d is l =
-      qed W (‵ (fat fullShare T′.mir l 0 (T′.lowered d)) ∷ []) ∵ use1 W (‵ (cellAt fullShare (T.the-row .mir) (vals d) l 0)) (W .laws .at-raw fullShare T′.mir l 0 (T′.lowered d)) $
-      owned ! T.the-row (Is T.the-row) (LL.makes T.the-type T′.the-plain 𝓤 H A) d _ is $ move ! (1 ∷ 0 ∷ []) $ fjoin ! $ fpack ! (List Val) (λ us. fsep (cellAt fullShare (T.the-row .mir) us l 0) (T.the-row .own d us)) (vals d) $ done !
+      qed W (‵ (fat fullShare fields′.mir l 0 (fields′.lowered d)) ∷ []) ∵ use1 W (‵ (cellAt fullShare (fields.the-row .mir) (vals d) l 0)) (W .laws .at-raw fullShare fields′.mir l 0 (fields′.lowered d)) $
+      owned ! fields.the-row (Is fields.the-row) (LL.makes fields.the-type fields′.the-plain 𝓤 H A) d _ is $ move ! (1 ∷ 0 ∷ []) $ fjoin ! $ fpack ! (List Val) (λ us. fsep (cellAt fullShare (fields.the-row .mir) us l 0) (fields.the-row .own d us)) (vals d) $ done !
 
-  part-out : (d : Field) (l : ℕ) → ent 𝓤 (sem 𝓤 H A (partAt T.the-row fullShare d l 0)) (sep 𝓤 (sem 𝓤 H A (T.the-row .own d (vals d))) (sem 𝓤 H A (fat fullShare T′.mir l 0 (T′.lowered d))))
+  part-out : (d : Field) (l : ℕ) → ent 𝓤 (sem 𝓤 H A (partAt fields.the-row fullShare d l 0)) (sep 𝓤 (sem 𝓤 H A (fields.the-row .own d (vals d))) (sem 𝓤 H A (fat fullShare fields′.mir l 0 (fields′.lowered d))))
   unfolding partOf
   part-out d l =
-      qed W (‵ (partAt T.the-row fullShare d l 0) ∷ []) ∵ fpick ! (λ vs. fsplit ! $ spelt ! T.the-row (Is T.the-row) (shows 𝓤 H A T.the-row) vals (T′.lowers .val-is) fullShare d vs l 0 $
-      use1 W (‵ (fat fullShare T′.mir l 0 (T′.lowered d))) (W .laws .raw-at fullShare T′.mir l 0 (T′.lowered d)) $ move ! (1 ∷ 0 ∷ []) $ done !)
+      qed W (‵ (partAt fields.the-row fullShare d l 0) ∷ []) ∵ fpick ! (λ vs. fsplit ! $ spelt ! fields.the-row (Is fields.the-row) (shows 𝓤 H A fields.the-row) vals (fields′.lowers .val-is) fullShare d vs l 0 $
+      use1 W (‵ (fat fullShare fields′.mir l 0 (fields′.lowered d))) (W .laws .raw-at fullShare fields′.mir l 0 (fields′.lowered d)) $ move ! (1 ∷ 0 ∷ []) $ done !)
 
 module _ (X : RattleType) (arg : Arg X) (Told : Field → X .Denot → Answer Field) where
   abbrev Row : RattleType
   Row = silent X
 
   abbrev here-ended : Ended
-  here-ended = record { signature = record { lifetimes = 0; outlives = []; params = plain (λ _. T.the-row) ∷ plain (λ _. Row) ∷ []; result = plain (λ _. L.the-row) }; kept = (yes, (yes, tt)) }
+  here-ended = record { signature = record { lifetimes = 0; outlives = []; params = plain (λ _. fields.the-row) ∷ plain (λ _. Row) ∷ []; result = plain (λ _. answers.the-row) }; kept = (yes, (yes, tt)) }
 
   abbrev here-clauses : {M : Type 1} (𝓤 : URA M) → Clauses 𝓤 here-ended
   here-clauses 𝓤 κs a = record { ghost = Unit {0}; requires = λ _. emp 𝓤; ensures = λ _ r e. fact 𝓤 (answerOf r ≡ Told (a .0) (a .1 .0)) }
@@ -101,10 +101,10 @@ module _ (X : RattleType) (arg : Arg X) (Told : Field → X .Denot → Answer Fi
   Lender 𝓤 H A = tripleOf 𝓤 H A (ended X arg Told .signature) (closing 𝓤 H A (ended X arg Told) (clauses X arg Told 𝓤))
 
   abbrev stayed : Stays (here-ended .signature .params) (here-ended .kept)
-  stayed = (stay-none (λ _. T.the-row) yes, (stay-none (λ _. Row) yes, tt))
+  stayed = (stay-none (λ _. fields.the-row) yes, (stay-none (λ _. Row) yes, tt))
 
   module _ {M : Type 1} (𝓤 : URA M) (H : Heap 𝓤) (A : Atoms 𝓤) (W : Given 𝓤 H A) where
-    module _ (h : Field) (n : X .Denot) (is-h : Is T.the-row h (vals h)) (is-n : Is Row n (arg .low n ∷ [])) where
+    module _ (h : Field) (n : X .Denot) (is-h : Is fields.the-row h (vals h)) (is-n : Is Row n (arg .low n ∷ [])) where
       abbrev x : Field × (X .Denot × Unit {0})
       x = (h, (n, tt))
 
@@ -114,11 +114,11 @@ module _ (X : RattleType) (arg : Arg X) (Told : Field → X .Denot → Answer Fi
       abbrev Post : Val → SProp 𝓤
       Post = walkOf 𝓤 H A here-ended stayed (here-clauses 𝓤) .post ((tt, tt, tt, x, at), tt)
 
-      exits : (r : Edited) → Is L.the-row r (outs r) → answerOf r ≡ Told h n → ent 𝓤 (emp 𝓤) (Post (L′.lowered r))
+      exits : (r : Edited) → Is answers.the-row r (outs r) → answerOf r ≡ Told h n → ent 𝓤 (emp 𝓤) (Post (answers′.lowered r))
       exits r is e =
-          qed W [] ∵ suffices ! _ (ends-at 𝓤 H A here-ended stayed (here-clauses 𝓤) W ((tt, tt, tt, x, at), tt) (L′.lowered r) r (tt, (tt, tt)) (tt, (tt, tt))) $ says ! e $
-          owned ! L.the-row (Is L.the-row) (LL.makes L.the-type L′.the-plain 𝓤 H A) r _ is $ nothing ! $ owned ! Row (Is Row) (arg .makes 𝓤 H A W) n _ is-n $ fjoin ! $
-          owned ! T.the-row (Is T.the-row) (LL.makes T.the-type T′.the-plain 𝓤 H A) h _ is-h $ fjoin ! $ nothing ! $ done !
+          qed W [] ∵ suffices ! _ (ends-at 𝓤 H A here-ended stayed (here-clauses 𝓤) W ((tt, tt, tt, x, at), tt) (answers′.lowered r) r (tt, (tt, tt)) (tt, (tt, tt))) $ says ! e $
+          owned ! answers.the-row (Is answers.the-row) (LL.makes answers.the-type answers′.the-plain 𝓤 H A) r _ is $ nothing ! $ owned ! Row (Is Row) (arg .makes 𝓤 H A W) n _ is-n $ fjoin ! $
+          owned ! fields.the-row (Is fields.the-row) (LL.makes fields.the-type fields′.the-plain 𝓤 H A) h _ is-h $ fjoin ! $ nothing ! $ done !
 
       -- The reference to the local at l, under the name δ, and what the lender's triple binds outside.
       abbrev ref : ℕ → GName → RefT Field
@@ -127,9 +127,9 @@ module _ (X : RattleType) (arg : Arg X) (Told : Field → X .Denot → Answer Fi
       abbrev to-edit : ℕ → ℕ → GName → Lender 𝓤 H A .Ghost
       to-edit ν l δ = (((ν ∷ [], tt), (fullShare, tt), tt, (ref l δ, (n, tt)), (vptr l 0 ∷ [], (arg .low n ∷ [], tt))), tt)
 
-      asks : (ν l : ℕ) (δ : GName) → ent 𝓤 (sep 𝓤 (A .lft (ν ∷ []) fullShare) (sem 𝓤 H A (MutRef (named 0) (ν ∷ []) T.the-row .own (ref l δ) (vptr l 0 ∷ [])))) (Lender 𝓤 H A .pre (to-edit ν l δ))
+      asks : (ν l : ℕ) (δ : GName) → ent 𝓤 (sep 𝓤 (A .lft (ν ∷ []) fullShare) (sem 𝓤 H A (MutRef (named 0) (ν ∷ []) fields.the-row .own (ref l δ) (vptr l 0 ∷ [])))) (Lender 𝓤 H A .pre (to-edit ν l δ))
       asks ν l δ =
-          qed W (‵ (flft (ν ∷ []) fullShare) ∷ ‵ (MutRef (named 0) (ν ∷ []) T.the-row .own (ref l δ) (vptr l 0 ∷ [])) ∷ []) ∵ move ! (1 ∷ []) $
+          qed W (‵ (flft (ν ∷ []) fullShare) ∷ ‵ (MutRef (named 0) (ν ∷ []) fields.the-row .own (ref l δ) (vptr l 0 ∷ [])) ∷ []) ∵ move ! (1 ∷ []) $
           nothing ! $ owned ! Row (Is Row) (arg .makes 𝓤 H A W) n _ is-n $ fjoin ! $ move ! (1 ∷ 0 ∷ []) $ fjoin ! $ move ! (1 ∷ []) $ nothing ! $ move ! (1 ∷ 0 ∷ []) $ join ! $ join ! $ frame ! $ done !
 
       -- What the lender ensures, of its verdict c and the last value d.
@@ -139,42 +139,42 @@ module _ (X : RattleType) (arg : Arg X) (Told : Field → X .Denot → Answer Fi
       abbrev out : Verdict → Field → Edited
       out c d = record { verdict = c; field = d }
 
-      made : (c : Verdict) (d : Field) → Is S.the-row c (said c) → Is T.the-row d (vals d) → Is L.the-row (out c d) (outs (out c d))
+      made : (c : Verdict) (d : Field) → Is verdicts.the-row c (said c) → Is fields.the-row d (vals d) → Is answers.the-row (out c d) (outs (out c d))
       made c d is-c is = ((said c, (vals d, tt)), (refl, (is-c, (is, tt))))
 
       module _ (g : Name) (C : Calls 𝓤 H) (Λ : Loops 𝓤 H) (fm : FmC 𝓤 H (W .laws) C) (known : Triple 𝓤 (C g) (Lender 𝓤 H A)) where
-        walk : ent 𝓤 (onEntry 𝓤 H A (here-ended .signature) tt tt x at) (WpFn 𝓤 H C Λ (here-shape g (arg .ty)) (T′.lowered h ∷ arg .low n ∷ []) Post)
+        walk : ent 𝓤 (onEntry 𝓤 H A (here-ended .signature) tt tt x at) (WpFn 𝓤 H C Λ (here-shape g (arg .ty)) (fields′.lowered h ∷ arg .low n ∷ []) Post)
         walk =
-            qed W (‵ ftrue ∷ ‵ (owns (T.the-row ∷ Row ∷ []) x at) ∷ []) ∵ enter ! C Λ (here-shape g (arg .ty)) (T′.lowered h ∷ arg .low n ∷ []) _ $
-            alloc1 ! (λ l₀. alloc1 ! (λ l₁. alloc1 ! (λ l₂. alloc1 ! (λ l₃. alloc1 ! (λ l₄. alloc1 ! (λ l₅. alloc1 ! (λ l₆. alloc0 ! $ params1 ! $ pass1 ! (init ! 10 refl (LL.lawful T.the-type T′.the-laws 𝓤 H A W .typed h _ is-h .0)) $ pass1 ! (init ! 8 refl (arg .typed 𝓤 H A W n is-n)) $ pass0 ! $
+            qed W (‵ ftrue ∷ ‵ (owns (fields.the-row ∷ Row ∷ []) x at) ∷ []) ∵ enter ! C Λ (here-shape g (arg .ty)) (fields′.lowered h ∷ arg .low n ∷ []) _ $
+            alloc1 ! (λ l₀. alloc1 ! (λ l₁. alloc1 ! (λ l₂. alloc1 ! (λ l₃. alloc1 ! (λ l₄. alloc1 ! (λ l₅. alloc1 ! (λ l₆. alloc0 ! $ params1 ! $ pass1 ! (init ! 10 refl (LL.lawful fields.the-type fields′.the-laws 𝓤 H A W .typed h _ is-h .0)) $ pass1 ! (init ! 8 refl (arg .typed 𝓤 H A W n is-n)) $ pass0 ! $
             -- [_6; …; _5; …; _4; …; _3; …; _2; …; _1; …; room for _0; …; true; the parameters']
-            assigns ! (of-opd ! (load ! (from ! (stop !)) (look ! 10 refl))) (from ! (stop !)) (init ! 6 refl (LL.lawful T.the-type T′.the-laws 𝓤 H A W .typed h _ is-h .0)) $
+            assigns ! (of-opd ! (load ! (from ! (stop !)) (look ! 10 refl))) (from ! (stop !)) (init ! 6 refl (LL.lawful fields.the-type fields′.the-laws 𝓤 H A W .typed h _ is-h .0)) $
             assigns ! (addr ! (from ! (stop !))) (from ! (stop !)) (init ! 2 refl (tt, tt)) $
             -- the local is lent for a new lifetime
-            move ! (6 ∷ []) $ use1 W (‵ (partAt T.the-row fullShare h l₃ 0)) (part-in 𝓤 H A W h is-h l₃) $ lft-new ! tt (λ ν. move ! (1 ∷ []) $
-            use1 W (later (some (λ (δ : GName). ‵ (MutRef (named 0) (ν ∷ []) T.the-row .own (ref l₃ δ) (vptr l₃ 0 ∷ [])) ⊛ ‵ (flent (ν ∷ []) (Body (mem T.the-row) l₃ 0 δ))))) (lends-ref 𝓤 H A W T.the-row (named 0) (ν ∷ []) h l₃ 0) $ await ! tt $ pick ! (λ δ. split ! $
+            move ! (6 ∷ []) $ use1 W (‵ (partAt fields.the-row fullShare h l₃ 0)) (part-in 𝓤 H A W h is-h l₃) $ lft-new ! tt (λ ν. move ! (1 ∷ []) $
+            use1 W (later (some (λ (δ : GName). ‵ (MutRef (named 0) (ν ∷ []) fields.the-row .own (ref l₃ δ) (vptr l₃ 0 ∷ [])) ⊛ ‵ (flent (ν ∷ []) (Body (mem fields.the-row) l₃ 0 δ))))) (lends-ref 𝓤 H A W fields.the-row (named 0) (ν ∷ []) h l₃ 0) $ await ! tt $ pick ! (λ δ. split ! $
             move ! (2 ∷ 0 ∷ []) $ use2 W (raw (Lender 𝓤 H A .pre (to-edit ν l₃ δ))) (asks ν l₃ δ) $
             calls-at ! fm (Lender 𝓤 H A) known (to-edit ν l₃ δ) (and-then ! (load ! (from ! (stop !)) (look ! 4 refl)) (and-then ! (load ! (from ! (stop !)) (look ! 9 refl)) (no-more !))) (λ v.
-            use1 W (later (some (λ (c : Verdict). ((‵ (flft (ν ∷ []) fullShare) ⊛ ‵ ftrue) ⊛ ‵ (S.the-row .own c (v ∷ []))) ⊛ raw (ensured 𝓤 H A (ended X arg Told) (clauses X arg Told 𝓤) (ν ∷ [], tt) (ref l₃ δ, (n, tt)) tt c)))) (id⊢ 𝓤 _) $ await ! tt $ pick ! (λ c.
+            use1 W (later (some (λ (c : Verdict). ((‵ (flft (ν ∷ []) fullShare) ⊛ ‵ ftrue) ⊛ ‵ (verdicts.the-row .own c (v ∷ []))) ⊛ raw (ensured 𝓤 H A (ended X arg Told) (clauses X arg Told 𝓤) (ν ∷ [], tt) (ref l₃ δ, (n, tt)) tt c)))) (id⊢ 𝓤 _) $ await ! tt $ pick ! (λ c.
             -- what the lender ensures, at some last value
             split ! $ move ! (1 ∷ []) $ use1 W (some (λ (ws : Field × (Unit {0} × Unit {0})). ‵ (lasts (ended X arg Told) (ν ∷ [], tt) (ref l₃ δ, (n, tt)) ws) ⊛ raw (fact 𝓤 (Said c (ws .0))))) (id⊢ 𝓤 _) $ pick ! (λ ws.
-            split ! $ move ! (1 ∷ []) $ heard ! (Said c (ws .0)) (λ e. fsplit ! $ move ! (2 ∷ []) $ split ! $ move ! (1 ∷ []) $ peeks ! S.the-row (Is S.the-row) (shows 𝓤 H A S.the-row) c (v ∷ []) (λ is.
+            split ! $ move ! (1 ∷ []) $ heard ! (Said c (ws .0)) (λ e. fsplit ! $ move ! (2 ∷ []) $ split ! $ move ! (1 ∷ []) $ peeks ! verdicts.the-row (Is verdicts.the-row) (shows 𝓤 H A verdicts.the-row) c (v ∷ []) (λ is.
             -- [what the answer owns; the token; the last value; true; the lender's part; _6; …; _5; …; _4; …; what frees _3; _2; …; _1; …; room for _0; …]
-            land ! (from ! (stop !)) (init ! 9 refl (EL.lawful S.the-type S′.the-laws 𝓤 H A W tt .typed c _ is .0)) $ rewrite ! 9 (λ (u : Val). ‵ (fat fullShare S′.mir l₄ 0 u)) (ap only (S′.lowers .val-is c (v ∷ []) is)) refl $
+            land ! (from ! (stop !)) (init ! 9 refl (EL.lawful verdicts.the-type verdicts′.the-laws 𝓤 H A W tt .typed c _ is .0)) $ rewrite ! 9 (λ (u : Val). ‵ (fat fullShare verdicts′.mir l₄ 0 u)) (ap only (verdicts′.lowers .val-is c (v ∷ []) is)) refl $
             -- the lifetime is ended, and the local is taken back at that value
-            move ! (1 ∷ []) $ split ! $ lft-end ! tt $ move ! (0 ∷ 5 ∷ 3 ∷ []) $ use3 W (later (‵ (partAt T.the-row fullShare (ws .0) l₃ 0))) (ref-back 𝓤 H A W T.the-row (ν ∷ []) δ (ws .0) l₃ 0) $ await ! tt $
-            use1 W (‵ (T.the-row .own (ws .0) (vals (ws .0))) ⊛ ‵ (fat fullShare T′.mir l₃ 0 (T′.lowered (ws .0)))) (part-out 𝓤 H A W (ws .0) l₃) $ split ! $ peeks ! T.the-row (Is T.the-row) (shows 𝓤 H A T.the-row) (ws .0) (vals (ws .0)) (λ is-d.
+            move ! (1 ∷ []) $ split ! $ lft-end ! tt $ move ! (0 ∷ 5 ∷ 3 ∷ []) $ use3 W (later (‵ (partAt fields.the-row fullShare (ws .0) l₃ 0))) (ref-back 𝓤 H A W fields.the-row (ν ∷ []) δ (ws .0) l₃ 0) $ await ! tt $
+            use1 W (‵ (fields.the-row .own (ws .0) (vals (ws .0))) ⊛ ‵ (fat fullShare fields′.mir l₃ 0 (fields′.lowered (ws .0)))) (part-out 𝓤 H A W (ws .0) l₃) $ split ! $ peeks ! fields.the-row (Is fields.the-row) (shows 𝓤 H A fields.the-row) (ws .0) (vals (ws .0)) (λ is-d.
             -- [what the field owns; _3; true; the answer's; true; _6; …; _5; …; _4; …; what frees _3; _2; …; _1; …; room for _0; …]
-            assigns ! (of-opd ! (load ! (from ! (stop !)) (look ! 1 refl))) (from ! (stop !)) (init ! 5 refl (LL.lawful T.the-type T′.the-laws 𝓤 H A W .typed (ws .0) _ is-d .0)) $
-            assigns ! (agg ! (and-then ! (load ! (from ! (stop !)) (look ! 9 refl)) (and-then ! (load ! (from ! (stop !)) (look ! 5 refl)) (no-more !)))) (from ! (stop !)) (init ! 16 refl (LL.lawful L.the-type L′.the-laws 𝓤 H A W .typed (out c (ws .0)) _ (made c (ws .0) (said-at-low c _ is) is-d) .0)) $
+            assigns ! (of-opd ! (load ! (from ! (stop !)) (look ! 1 refl))) (from ! (stop !)) (init ! 5 refl (LL.lawful fields.the-type fields′.the-laws 𝓤 H A W .typed (ws .0) _ is-d .0)) $
+            assigns ! (agg ! (and-then ! (load ! (from ! (stop !)) (look ! 9 refl)) (and-then ! (load ! (from ! (stop !)) (look ! 5 refl)) (no-more !)))) (from ! (stop !)) (init ! 16 refl (LL.lawful answers.the-type answers′.the-laws 𝓤 H A W .typed (out c (ws .0)) _ (made c (ws .0) (said-at-low c _ is) is-d) .0)) $
             returns ! (look ! 16 refl) $ forget ! 1 refl $ forget ! 5 refl $ forget ! 7 refl $ forget ! 9 refl $ forget ! 12 refl $ forget ! 14 refl $ forget ! 16 refl $
             move ! (16 ∷ 17 ∷ []) $ free1 ! $ move ! (14 ∷ 15 ∷ []) $ free1 ! $ move ! (12 ∷ 13 ∷ []) $ free1 ! $ move ! (1 ∷ 11 ∷ []) $ free1 ! $ move ! (8 ∷ 9 ∷ []) $ free1 ! $ move ! (6 ∷ 7 ∷ []) $ free1 ! $ move ! (4 ∷ 5 ∷ []) $ free1 ! $ free0 ! $
             keep ! [] $ by ! (exits (out c (ws .0)) (made c (ws .0) (said-at-low c _ is) is-d) (both (Told h n) e)))))))))))))))))
 
     walks : (g : Name) (C : Calls 𝓤 H) (Λ : Loops 𝓤 H) → FmC 𝓤 H (W .laws) C → Triple 𝓤 (C g) (Lender 𝓤 H A) → Walks 𝓤 H A here-ended stayed (WpFn 𝓤 H C Λ (here-shape g (arg .ty))) (here-clauses 𝓤)
-    walks g C Λ fm known = walked 𝓤 H A here-ended stayed (here-clauses 𝓤) (WpFn 𝓤 H C Λ (here-shape g (arg .ty))) (λ κs. (vals, ((λ n. arg .low n ∷ []), tt))) (λ κs. (T′.lowers .val-is, (arg .tells, tt)))
+    walks g C Λ fm known = walked 𝓤 H A here-ended stayed (here-clauses 𝓤) (WpFn 𝓤 H C Λ (here-shape g (arg .ty))) (λ κs. (vals, ((λ n. arg .low n ∷ []), tt))) (λ κs. (fields′.lowers .val-is, (arg .tells, tt)))
         (λ κs qs bounds a _ are. via 𝓤 _ (fst∗ 𝓤 _ (emp 𝓤)) (walk (a .0) (a .1 .0) (are .0) (are .1 .0) g C Λ fm known))
 
     pub lent-here : (g : Name) (𝓣 : Tables 𝓤 H) → Triple 𝓤 (𝓣 .C g) (Lender 𝓤 H A) → Meets 𝓤 H A (here-ended .signature) (WpFn 𝓤 H (𝓣 .C) (𝓣 .Λ) (here-shape g (arg .ty))) (closing 𝓤 H A here-ended (here-clauses 𝓤))
-    lent-here g 𝓣 known = walk-meets 𝓤 H A here-ended stayed W (goes-none 𝓤 H A W 0 (λ _. T.the-row) yes (λ κs x f. refl), (goes-none 𝓤 H A W 0 (λ _. Row) yes (λ κs x f. refl), tt)) (here-clauses 𝓤)
+    lent-here g 𝓣 known = walk-meets 𝓤 H A here-ended stayed W (goes-none 𝓤 H A W 0 (λ _. fields.the-row) yes (λ κs x f. refl), (goes-none 𝓤 H A W 0 (λ _. Row) yes (λ κs x f. refl), tt)) (here-clauses 𝓤)
         (WpFn 𝓤 H (𝓣 .C) (𝓣 .Λ) (here-shape g (arg .ty))) (WpFn-mono 𝓤 H (W .laws) 𝓣 (here-shape g (arg .ty))) (walks g (𝓣 .C) (𝓣 .Λ) (fmOf 𝓤 H (W .laws) 𝓣) known)

@@ -205,9 +205,9 @@ impl Field {
         }
     }
 
-    // A character, put into a field that is lent: the answer of `try_insert` is returned, and its field left behind the reference, so
-    // that a field that breaks the rules stays byte for byte as it was. A tree whose own field a caller edits so is no longer the one
-    // that its last call left: the next call checks it as it checks any tree, and takes a field that keeps the rules as it is.
+    // A character, put into a field that is lent: `try_insert` answers, and its field is left behind the reference, so that a field that
+    // breaks the rules stays byte for byte as it was. A tree whose own field a caller edits so, or by `edit_lent`, is no longer the one that
+    // the last call left: the next call checks it as it checks every tree, and takes a field that keeps the rules as it is.
     pub fn insert_lent(&mut self, ch: u32) -> Verdict
         ensures { λ r. ⌜ (verdictOf r ≡ insertAnswer (now (self .entry)) ch .number) × (now (self .exit) ≡ insertAnswer (now (self .entry)) ch .value) ⌝ }
     {
@@ -216,7 +216,7 @@ impl Field {
         out.verdict
     }
 
-    // An edit of a field that is lent, likewise by `try_edit`.
+    // An edit of a field that is lent, by `try_edit` likewise.
     pub fn edit_lent(&mut self, op: EditOp) -> Verdict
         ensures { λ r. ⌜ (verdictOf r ≡ editAnswer (now (self .entry)) op .number) × (now (self .exit) ≡ editAnswer (now (self .entry)) op .value) ⌝ }
     {
@@ -225,7 +225,7 @@ impl Field {
         out.verdict
     }
 
-    // A character, put in by lending a field of one's own: who calls this needs no reference.
+    // `insert_lent` on a field of one's own, for callers that hold no reference.
     pub fn insert_here(mut self, ch: u32) -> Edited
         ensures { λ r. ⌜ answerOf r ≡ insertAnswer self ch ⌝ }
     {
@@ -236,7 +236,7 @@ impl Field {
         }
     }
 
-    // An edit by lending a field of one's own, likewise.
+    // `edit_lent`, likewise.
     pub fn edit_here(mut self, op: EditOp) -> Edited
         ensures { λ r. ⌜ answerOf r ≡ editAnswer self op ⌝ }
     {
