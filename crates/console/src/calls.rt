@@ -359,12 +359,12 @@ fn front(s: &[u8], n: usize) -> &[u8] {
 }
 
 // The call in the first n bytes of a line's buffer.
-pub fn read(text: &[u8; 1025], n: usize) -> Call {
+pub(crate) fn read(text: &[u8; 1025], n: usize) -> Call {
     call_of(front(text, n))
 }
 
 // What a word does to the tree.
-pub fn kind_of(word: Word) -> Kind {
+pub(crate) fn kind_of(word: Word) -> Kind {
     match word {
         Word::Insert(_) => Kind::Both,
         Word::Output => Kind::Both,

@@ -218,7 +218,7 @@ fn fields(h: StateHash, all: [Field; 8]) -> StateHash {
 }
 
 // The digest of the whole tree.
-pub fn state(u: Ui) -> u64 {
+pub(crate) fn state(u: Ui) -> u64 {
     let memory = u.interaction;
     let queue = u.outputs;
     let patches = u.patches;

@@ -21,7 +21,7 @@ pub struct Taken {
 }
 
 impl Pipes {
-    pub fn new() -> Pipes {
+    pub(crate) fn new() -> Pipes {
         Pipes {
             at: 0,
             got: 0,
@@ -43,7 +43,7 @@ fn read_some(s: &mut [u8]) -> usize {
 }
 
 // Writes what waits.
-pub fn flush(out: &mut [u8; 4096], held: usize) {
+pub(crate) fn flush(out: &mut [u8; 4096], held: usize) {
     write_front(out, held);
 }
 
@@ -87,7 +87,7 @@ fn next_byte(chunk: &mut [u8; 4096], out: &mut [u8; 4096], p: Pipes) -> Next {
 }
 
 // The next line, put at the start of `line`. It stops at 1,025 bytes, one more than a line may have.
-pub fn next_line(
+pub(crate) fn next_line(
     line: &mut [u8; 1025],
     chunk: &mut [u8; 4096],
     out: &mut [u8; 4096],
@@ -134,7 +134,7 @@ fn put_at(out: &mut [u8; 4096], held: usize, line: Line) -> usize
 }
 
 // The same, after what waits is written where there is no room.
-pub fn put(out: &mut [u8; 4096], p: Pipes, line: Line) -> Pipes {
+pub(crate) fn put(out: &mut [u8; 4096], p: Pipes, line: Line) -> Pipes {
     if 3900 < p.held {
         flush(out, p.held);
         return Pipes {

@@ -11,7 +11,7 @@ pub struct Line {
 }
 
 // The 64 bits of a signed number.
-pub fn cast_unsigned(x: i64) -> u64 {
+pub(crate) fn cast_unsigned(x: i64) -> u64 {
     if 0 <= x {
         x as u64
     } else {
@@ -25,7 +25,7 @@ fn wide(b: u8) -> u64 {
 
 impl Line {
     // The line that a malformed call writes.
-    pub fn malformed() -> Line {
+    pub(crate) fn malformed() -> Line {
         Line::empty().byte(63)
     }
 
@@ -37,12 +37,12 @@ impl Line {
     }
 
     // The line of an accepted call, before its values.
-    pub fn accepted() -> Line {
+    pub(crate) fn accepted() -> Line {
         Line::empty().byte(48)
     }
 
     // The line of a refused call, before what stands for its values.
-    pub fn refused(word: Refusal) -> Line {
+    pub(crate) fn refused(word: Refusal) -> Line {
         Line::empty().digits(refusal::number(word) as u64)
     }
 
@@ -56,7 +56,7 @@ impl Line {
     }
 
     // The bytes of s, with no space.
-    pub fn text(self, s: &[u8]) -> Line {
+    pub(crate) fn text(self, s: &[u8]) -> Line {
         let mut all = self;
         for i in 0..s.len() {
             all = all.byte(s[i]);
@@ -71,12 +71,12 @@ impl Line {
     }
 
     // A space and a number.
-    pub fn number(self, x: u64) -> Line {
+    pub(crate) fn number(self, x: u64) -> Line {
         self.byte(32).digits(x)
     }
 
     // A space and a number with a sign.
-    pub fn raw(self, x: i64) -> Line {
+    pub(crate) fn raw(self, x: i64) -> Line {
         if x < 0 {
             let bits = cast_unsigned(x);
             if bits == 0 {
@@ -95,12 +95,12 @@ impl Line {
     }
 
     // A space and a hash.
-    pub fn hash(self, x: u64) -> Line {
+    pub(crate) fn hash(self, x: u64) -> Line {
         self.byte(32).hex(x, 16)
     }
 
     // A space and the bytes of s, two digits each.
-    pub fn bytes(self, s: &[u8]) -> Line {
+    pub(crate) fn bytes(self, s: &[u8]) -> Line {
         if s.len() == 0 {
             return self.text(b" -");
         }
@@ -112,12 +112,12 @@ impl Line {
     }
 
     // A space and an id.
-    pub fn id(self, d: NodeId) -> Line {
+    pub(crate) fn id(self, d: NodeId) -> Line {
         self.number(d.index as u64).number(d.generation)
     }
 
     // A space and an id, or `none`.
-    pub fn maybe(self, d: MaybeId) -> Line {
+    pub(crate) fn maybe(self, d: MaybeId) -> Line {
         match d {
             MaybeId::Absent => self.text(b" none"),
             MaybeId::Present(id) => self.id(id),

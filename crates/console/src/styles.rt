@@ -114,7 +114,7 @@ fn background(s: &[u8]) -> BackgroundRead {
 }
 
 // A style from the first nineteen words of a line's rest.
-pub fn read(s: &[u8]) -> StyleRead {
+pub(crate) fn read(s: &[u8]) -> StyleRead {
     let way = direction(word(s, 0));
     let width = size(word(s, 1));
     let height = size(word(s, 2));
@@ -154,7 +154,7 @@ pub fn read(s: &[u8]) -> StyleRead {
 }
 
 // The style of a new node: what stands where a call has none.
-pub fn none() -> Style {
+pub(crate) fn none() -> Style {
     let edges = Edges {
         left: 0,
         right: 0,

@@ -22,7 +22,7 @@ use tree::answers::NodeRect;
 use tree::answers::TextLength;
 
 // The line of a call that answers nothing but whether it was accepted.
-pub fn plain(v: Verdict) -> Line {
+pub(crate) fn plain(v: Verdict) -> Line {
     match v {
         Verdict::Accepted => Line::accepted(),
         Verdict::Refused(word) => Line::refused(word),
@@ -113,7 +113,7 @@ fn stored(id: MaybeId) -> Line {
 }
 
 // The calls that leave the tree as it is.
-pub fn asked(tree: Ui, word: Word) -> Line {
+pub(crate) fn asked(tree: Ui, word: Word) -> Line {
     match word {
         Word::Text(d) => text(tree, d),
         Word::Cursor(d) => caret(tree.field_cursor(d)),
@@ -174,7 +174,7 @@ fn without_output(tree: Ui) -> Changed {
 }
 
 // The tree after a call, and whether the call was accepted. Each arm returns by itself, so that one tree serves them all.
-pub fn changed(tree: Ui, call: Call, waiting: Waiting) -> Changed {
+pub(crate) fn changed(tree: Ui, call: Call, waiting: Waiting) -> Changed {
     let word = call.word;
     let style = call.style;
     let table = call.table;

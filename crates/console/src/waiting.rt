@@ -11,7 +11,7 @@ pub struct Waiting {
 }
 
 impl Waiting {
-    pub fn none() -> Waiting {
+    pub(crate) fn none() -> Waiting {
         let patch = StatePatch {
             style: styles::none(),
             touches_layout: false,
@@ -23,7 +23,7 @@ impl Waiting {
     }
 
     // One more, where fewer than 65 wait.
-    pub fn with(mut self, patch: StatePatch) -> Waiting {
+    pub(crate) fn with(mut self, patch: StatePatch) -> Waiting {
         let n = self.count;
         if n < 64 {
             let at = n as usize;
@@ -36,7 +36,7 @@ impl Waiting {
     }
 
     // What one more is answered.
-    pub fn answer(self) -> Line {
+    pub(crate) fn answer(self) -> Line {
         let n = self.count;
         if n < 65 {
             return Line::accepted().number((n + 1) as u64);
@@ -45,7 +45,7 @@ impl Waiting {
     }
 
     // What waits after a call: nothing after `pool`.
-    pub fn after(mut self, word: Word) -> Waiting {
+    pub(crate) fn after(mut self, word: Word) -> Waiting {
         match word {
             Word::Pool => {
                 self.count = 0;

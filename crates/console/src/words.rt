@@ -34,7 +34,7 @@ pub struct HexRead {
 }
 
 // Whether two strings are the same.
-pub fn same(a: &[u8], b: &[u8]) -> bool {
+pub(crate) fn same(a: &[u8], b: &[u8]) -> bool {
     if a.len() == b.len() {
         for i in 0..a.len() {
             if a[i] != b[i] {
@@ -47,7 +47,7 @@ pub fn same(a: &[u8], b: &[u8]) -> bool {
 }
 
 // How many words a line has: one more than spaces.
-pub fn count(s: &[u8]) -> usize {
+pub(crate) fn count(s: &[u8]) -> usize {
     let mut n = 1;
     for i in 0..s.len() {
         if s[i] == 32 {
@@ -91,13 +91,13 @@ fn end_of(s: &[u8], at: usize) -> usize
 }
 
 // The line from word k on.
-pub fn rest(s: &[u8], k: usize) -> &[u8] {
+pub(crate) fn rest(s: &[u8], k: usize) -> &[u8] {
     let at = start_of(s, k);
     &s[at..]
 }
 
 // Word k, counted from 0; empty where the line has none.
-pub fn word(s: &[u8], k: usize) -> &[u8] {
+pub(crate) fn word(s: &[u8], k: usize) -> &[u8] {
     let at = start_of(s, k);
     let end = end_of(s, at);
     &s[at..end]
@@ -157,7 +157,7 @@ fn decimal(s: &[u8]) -> NumberRead {
 }
 
 // A number of at most `most`.
-pub fn number(s: &[u8], most: u64) -> NumberRead
+pub(crate) fn number(s: &[u8], most: u64) -> NumberRead
     ensures { λ r. ⌜ r .value ≤ most ⌝ }
 {
     let n = decimal(s);
@@ -170,7 +170,7 @@ pub fn number(s: &[u8], most: u64) -> NumberRead
 }
 
 // A number of 32 bits.
-pub fn small(s: &[u8]) -> SmallRead {
+pub(crate) fn small(s: &[u8]) -> SmallRead {
     let n = number(s, 4294967295);
     SmallRead {
         ok: n.ok,
@@ -217,7 +217,7 @@ fn cast_signed32(bits: u32) -> i32 {
 }
 
 // RAW: any number of 64 bits.
-pub fn raw(s: &[u8]) -> RawRead {
+pub(crate) fn raw(s: &[u8]) -> RawRead {
     let n = signed(s, 9223372036854775807);
     RawRead {
         ok: n.ok,
@@ -226,7 +226,7 @@ pub fn raw(s: &[u8]) -> RawRead {
 }
 
 // A number of 32 bits with a sign.
-pub fn pixels(s: &[u8]) -> PixelsRead {
+pub(crate) fn pixels(s: &[u8]) -> PixelsRead {
     let n = signed(s, 2147483647);
     PixelsRead {
         ok: n.ok,
@@ -254,7 +254,7 @@ fn nibble(b: u8) -> u8
 }
 
 // HASH: 16 hexadecimal digits. The remainder cuts nothing off.
-pub fn hash(s: &[u8]) -> NumberRead {
+pub(crate) fn hash(s: &[u8]) -> NumberRead {
     if s.len() != 16 {
         return no_number();
     }
@@ -316,7 +316,7 @@ fn pairs(s: &[u8]) -> HexRead {
 }
 
 // HEX.
-pub fn hex(s: &[u8]) -> HexRead {
+pub(crate) fn hex(s: &[u8]) -> HexRead {
     if same(s, b"-") {
         return HexRead::none(true);
     }
@@ -324,7 +324,7 @@ pub fn hex(s: &[u8]) -> HexRead {
 }
 
 // The number, or the bound where that is less.
-pub fn at_most(n: usize, bound: usize) -> usize
+pub(crate) fn at_most(n: usize, bound: usize) -> usize
     ensures { λ r. ⌜ r ≤ bound ⌝ }
 {
     if n < bound { n } else { bound }

@@ -157,7 +157,7 @@ pub const CALLS: u32 = 18;
 pub const NAMING: u32 = 12;
 
 // One call, by its number; those that name a node name d.
-pub fn ask(u: Ui, call: u32, d: NodeId) -> Answer {
+pub(crate) fn ask(u: Ui, call: u32, d: NodeId) -> Answer {
     match call {
         0 => insert(u, d),
         1 => remove(u, d),
@@ -180,7 +180,7 @@ pub fn ask(u: Ui, call: u32, d: NodeId) -> Answer {
     }
 }
 
-pub fn put_call(call: u32) {
+pub(crate) fn put_call(call: u32) {
     match call {
         0 => put(b"insert"),
         1 => put(b"remove"),

@@ -62,7 +62,7 @@ pub struct Edits {
 }
 
 impl Edits {
-    pub fn none() -> Edits {
+    pub(crate) fn none() -> Edits {
         Edits {
             list: [Edit {
                 part: Part::Nothing,
@@ -74,7 +74,7 @@ impl Edits {
     }
 
     // One more.
-    pub fn set(mut self, part: Part, at: u32, value: u32) -> Edits {
+    pub(crate) fn set(mut self, part: Part, at: u32, value: u32) -> Edits {
         let k = self.count as usize;
         if k < 8 {
             self.list[k] = Edit {
@@ -88,12 +88,12 @@ impl Edits {
     }
 
     // One more: a link of slot `at`.
-    pub fn link(self, link: Link, at: u32, value: u32) -> Edits {
+    pub(crate) fn link(self, link: Link, at: u32, value: u32) -> Edits {
         self.set(Part::OfSlot(link), at, value)
     }
 
     // One more: a mark of field `at`.
-    pub fn mark(self, mark: Mark, at: u32, value: u32) -> Edits {
+    pub(crate) fn mark(self, mark: Mark, at: u32, value: u32) -> Edits {
         self.set(Part::OfField(mark), at, value)
     }
 }
@@ -244,7 +244,7 @@ fn edited(u: Ui, e: Edit) -> Ui {
 }
 
 // The tree after all edits.
-pub fn done(u: Ui, edits: Edits) -> Ui {
+pub(crate) fn done(u: Ui, edits: Edits) -> Ui {
     let list = edits.list;
     let count = edits.count as usize;
     let mut out = u;

@@ -23,7 +23,7 @@ pub enum Base {
 }
 
 // The node that slot i got first.
-pub fn id(i: u32) -> NodeId {
+pub(crate) fn id(i: u32) -> NodeId {
     NodeId {
         index: i,
         generation: 1,
@@ -31,7 +31,7 @@ pub fn id(i: u32) -> NodeId {
 }
 
 // A style of a set width and height.
-pub fn plain(width: i64, height: i64) -> Style {
+pub(crate) fn plain(width: i64, height: i64) -> Style {
     let none = Edges {
         left: 0,
         right: 0,
@@ -53,7 +53,7 @@ pub fn plain(width: i64, height: i64) -> Style {
 }
 
 // 64 patches, all alike.
-pub fn patches() -> [StatePatch; 64] {
+pub(crate) fn patches() -> [StatePatch; 64] {
     [StatePatch {
         style: plain(1310720, 655360),
         touches_layout: true,
@@ -61,13 +61,13 @@ pub fn patches() -> [StatePatch; 64] {
 }
 
 // A table that wears patch 1 on the node that has hover and focus.
-pub fn table() -> [u16; 16] {
+pub(crate) fn table() -> [u16; 16] {
     let mut t = [65535u16; 16];
     t[5] = 1;
     t
 }
 
-pub fn view() -> Viewport {
+pub(crate) fn view() -> Viewport {
     Viewport {
         width: 20971520,
         height: 13107200,
@@ -129,7 +129,7 @@ fn grown() -> Ui {
     u
 }
 
-pub fn tree(base: Base) -> Ui {
+pub(crate) fn tree(base: Base) -> Ui {
     match base {
         Base::Alone => fresh(1),
         Base::Wide => fresh(128),

@@ -118,7 +118,7 @@ fn mark(mark: Mark, at: u32, value: u32) -> Edits {
 }
 
 // Slots, patches, the root.
-pub fn counts() {
+pub(crate) fn counts() {
     row(
         b"0 slots",
         Base::Alone,
@@ -178,7 +178,7 @@ fn moved() -> Edits {
 }
 
 // Live nodes are just those reached from the root, each in one child chain.
-pub fn reach() {
+pub(crate) fn reach() {
     grown(b"live node not reached", awake(), adopted());
     grown(b"reached slot dead", asleep(), dismissed());
     grown(b"slot in two chains", shared(), moved());
@@ -196,7 +196,7 @@ fn reordered() -> Edits {
 }
 
 // Links equal both ways. Of a dead slot only the next link is ruled.
-pub fn links() {
+pub(crate) fn links() {
     grown(
         b"parent link one way",
         link(Link::Parent, 3, 5),
@@ -240,7 +240,7 @@ fn rotated() -> Edits {
 }
 
 // The free chain, 8, 7, 9, 10, 11, and the live count.
-pub fn free() {
+pub(crate) fn free() {
     grown(
         b"dead slot not in the free chain",
         set(Part::Free, 0, 7),
@@ -255,7 +255,7 @@ pub fn free() {
 }
 
 // Worn and table numbers, and bits. The pool has two patches.
-pub fn states() {
+pub(crate) fn states() {
     grown(
         b"worn number past the pool",
         set(Part::OfState(Dress::Applied), 3, 2),
@@ -280,7 +280,7 @@ fn stated_slots(first: u32, second: u32, third: u32, count: u32) -> Edits {
 }
 
 // Stated slots, and the queue.
-pub fn stated() {
+pub(crate) fn stated() {
     grown(
         b"4 stated slots",
         stated_slots(2, 3, 0, 4),
@@ -311,7 +311,7 @@ fn text(first: u32, second: u32, length: u32, caret: u32) -> Edits {
         .mark(Mark::Caret, 1, caret)
 }
 
-pub fn fields() {
+pub(crate) fn fields() {
     grown(
         b"two fields with one owner",
         mark(Mark::Owner, 1, 1),

@@ -289,12 +289,12 @@ fn same_lists(a: Ui, b: Ui) -> bool {
     same_outputs(o, p) & same_fields(f, g)
 }
 
-pub fn same(a: Ui, b: Ui) -> bool {
+pub(crate) fn same(a: Ui, b: Ui) -> bool {
     same_rest(a, b) & (same_boxes(a, b) & (same_looks(a, b) & same_lists(a, b)))
 }
 
 // Whether the bytes are all 0.
-pub fn all_zero(b: [u8; 64]) -> bool {
+pub(crate) fn all_zero(b: [u8; 64]) -> bool {
     for i in 0..64 {
         if b[i] != 0 {
             return false;

@@ -117,7 +117,7 @@ fn boundaries() {
 }
 
 // A string, whether it is UTF-8, and what it measures.
-pub fn string(s: &[u8]) {
+pub(crate) fn string(s: &[u8]) {
     put(b"bytes");
     put_bytes(s);
     put(b": utf-8 ");
@@ -209,7 +209,7 @@ fn neighbours() {
     );
 }
 
-pub fn run() {
+pub(crate) fn run() {
     examples();
     boundaries();
     torn();

@@ -218,7 +218,7 @@ fn broken() {
     asked(b"text cut short", 9, 3);
 }
 
-pub fn run() {
+pub(crate) fn run() {
     insertions();
     no_characters();
     small();

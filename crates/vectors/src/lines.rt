@@ -50,7 +50,7 @@ fn each(kind: Kind, s: &[u8]) {
 }
 
 // A heading, and a vector for each line.
-pub fn group(kind: Kind, name: &[u8], s: &[u8]) {
+pub(crate) fn group(kind: Kind, name: &[u8], s: &[u8]) {
     heading(name);
     each(kind, s);
 }

@@ -36,21 +36,21 @@ fn put_metres(m: Metres) {
 }
 
 // A text, the number that refuses it or 0, and the centimetres.
-pub fn metres(s: &[u8]) {
+pub(crate) fn metres(s: &[u8]) {
     put_quoted(s);
     put(b": ");
     put_metres(typed(s).metres());
     put(b"\n");
 }
 
-pub fn width(s: &[u8]) {
+pub(crate) fn width(s: &[u8]) {
     put_quoted(s);
     put(b": ");
     put_width(text::measure(s));
     put(b"\n");
 }
 
-pub fn run() {
+pub(crate) fn run() {
     lines::group(
         Kind::Metres,
         b"Metres: the number of the answer, and centimetres",

@@ -92,7 +92,7 @@ fn whole() {
     );
 }
 
-pub fn run() {
+pub(crate) fn run() {
     documented();
     others();
     whole();

@@ -3,23 +3,23 @@ use libc::STDOUT_FILENO;
 use text::Measured;
 use text::refusal;
 
-pub fn put(s: &[u8]) {
+pub(crate) fn put(s: &[u8]) {
     io::write_all(STDOUT_FILENO, s);
 }
 
-pub fn heading(s: &[u8]) {
+pub(crate) fn heading(s: &[u8]) {
     put(b"# ");
     put(s);
     put(b"\n");
 }
 
-pub fn put_quoted(s: &[u8]) {
+pub(crate) fn put_quoted(s: &[u8]) {
     put(b"\"");
     put(s);
     put(b"\"");
 }
 
-pub fn put_yes(yes: bool) {
+pub(crate) fn put_yes(yes: bool) {
     if yes {
         put(b"yes");
     } else {
@@ -27,22 +27,22 @@ pub fn put_yes(yes: bool) {
     }
 }
 
-pub fn put_number(x: u64) {
+pub(crate) fn put_number(x: u64) {
     io::print_decimal(STDOUT_FILENO, x);
 }
 
-pub fn put_labelled(label: &[u8], x: u64) {
+pub(crate) fn put_labelled(label: &[u8], x: u64) {
     put(label);
     put_number(x);
 }
 
 // In base sixteen, with zeros in front up to a width.
-pub fn put_hex(x: u64, width: usize) {
+pub(crate) fn put_hex(x: u64, width: usize) {
     io::print_hex(STDOUT_FILENO, x, width);
 }
 
 // A number with a sign; no vector gives one below 0.
-pub fn put_signed(x: i64) {
+pub(crate) fn put_signed(x: i64) {
     if x < 0 {
         put(b"below 0");
     } else {
@@ -55,7 +55,7 @@ fn wide(b: u8) -> u64 {
 }
 
 // Bytes in base sixteen, a space before each.
-pub fn put_bytes(s: &[u8]) {
+pub(crate) fn put_bytes(s: &[u8]) {
     let mut i = 0;
     while i < s.len() {
         put(b" ");
@@ -65,7 +65,7 @@ pub fn put_bytes(s: &[u8]) {
 }
 
 // What a text measures, in raw units, or the number that refuses it.
-pub fn put_width(m: Measured) {
+pub(crate) fn put_width(m: Measured) {
     match m {
         Measured::Width(w) => {
             put(b"width ");

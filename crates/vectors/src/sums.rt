@@ -9,7 +9,7 @@ use crate::show::put_quoted;
 use crate::show::put_yes;
 use arithmetic::fold::StateHash;
 
-pub fn sum_of(s: &[u8]) -> u64 {
+pub(crate) fn sum_of(s: &[u8]) -> u64 {
     StateHash::new().absorb_bytes(s).finish()
 }
 
@@ -18,13 +18,13 @@ fn put_sum(sum: u64) {
     put_hex(sum, 16);
 }
 
-pub fn words(s: &[u8]) {
+pub(crate) fn words(s: &[u8]) {
     put_quoted(s);
     put_sum(sum_of(s));
     put(b"\n");
 }
 
-pub fn bytes(s: &[u8]) {
+pub(crate) fn bytes(s: &[u8]) {
     put(b"bytes");
     put_bytes(s);
     put_sum(sum_of(s));
@@ -107,7 +107,7 @@ fn both() {
     );
 }
 
-pub fn run() {
+pub(crate) fn run() {
     published();
     numbers32();
     numbers64();
