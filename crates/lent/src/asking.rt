@@ -118,7 +118,7 @@ fn each_insert(name: &[u8], sound: bool, f: Field) -> bool {
 }
 
 // Every edit of a field, of which the caller says whether it keeps the rules.
-pub fn asked(name: &[u8], sound: bool, f: Field) -> bool {
+pub(crate) fn asked(name: &[u8], sound: bool, f: Field) -> bool {
     let edits = each_edit(name, sound, f);
     let inserts = each_insert(name, sound, f);
     edits & inserts

@@ -37,7 +37,7 @@ fn same_bytes(a: [u8; 64], b: [u8; 64]) -> bool {
     true
 }
 
-pub fn same_field(a: Field, b: Field) -> bool {
+pub(crate) fn same_field(a: Field, b: Field) -> bool {
     let s = a.bytes;
     let t = b.bytes;
     let counts = (a.len == b.len) & (a.cursor == b.cursor);

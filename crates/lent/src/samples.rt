@@ -49,7 +49,7 @@ fn begun(a: u8, b: u8, c: u8) -> Field {
 }
 
 // Fields that keep the rules.
-pub fn kept() -> bool {
+pub(crate) fn kept() -> bool {
     let a = asked(b"empty", true, Field::empty());
     let b = asked(b"four characters", true, four());
     let c = asked(b"caret at the start", true, counted(10, 0));
@@ -92,7 +92,7 @@ fn ill_formed() -> bool {
 }
 
 // Fields that break the rules.
-pub fn broken() -> bool {
+pub(crate) fn broken() -> bool {
     let places = out_of_place();
     let texts = ill_formed();
     places & texts
