@@ -67,7 +67,7 @@ fn lead(b: u8) -> Place
 }
 
 // The reader one byte further. The bound on the bits read holds of every reader that began at the start.
-pub fn step(p: Place, b: u8) -> Place
+pub(crate) fn step(p: Place, b: u8) -> Place
     requires { ⌜ p .code < 2 ^ 26 ⌝ }
     ensures { λ r. ⌜ r ≡ stepOf p b ⌝ }
 {
