@@ -56,3 +56,4 @@ pub mod Queues
 pub mod SlottedOrders
 pub mod Wearings
 pub mod Keeps
+pub mod WalkLaws

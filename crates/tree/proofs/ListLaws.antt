@@ -16,7 +16,7 @@ use Rattle.tree.specs.Tests.{finalOr}
 use Rattle.tree.specs.Lists.{listed, orderOf, noneListed, added, addedAll}
 
 -- cases on an order of two numbers, for any goal
-lt-cases : {G : Type 0} (i j : ℕ) → (i < j → G) → (j ≤ i → G) → G
+pub lt-cases : {G : Type 0} (i j : ℕ) → (i < j → G) → (j ≤ i → G) → G
 lt-cases {G = G} i j f g = bool-cases (ltb i j) (λ e. f (ltb-true i j e)) (λ e. g (ltb-false i j e))
 
 -- links right below 128 are right at every index: past the arrays both are 0

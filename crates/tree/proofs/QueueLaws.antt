@@ -51,7 +51,7 @@ take-cut zero q m = refl
 take-cut (suc k) [] m = refl
 take-cut (suc k) (x ∷ q) m = ap (λ (r : List ℕ). x ∷ r) (take-cut k q m)
 
-take-take : (j n : ℕ) (l : List ℕ) → j ≤ n → take j (take n l) ≡ take j l
+pub take-take : (j n : ℕ) (l : List ℕ) → j ≤ n → take j (take n l) ≡ take j l
 take-take zero n l h = refl
 take-take (suc j) zero l h = absurd (omega arith)
 take-take (suc j) (suc n) [] h = refl

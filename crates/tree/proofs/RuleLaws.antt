@@ -13,7 +13,7 @@ use Rattle.tree.specs.Tests.{same, occ, headOr, finalOr, fromTo, all}
 use Rattle.tree.specs.Forest.{Forest, nil, node, size}
 use Rattle.tree.specs.Slots.{NIL, Slots, at, used, chain, order}
 use Rattle.tree.specs.Trees.{limitOf}
-use Rattle.tree.specs.Rules.{aliveness, kidsWell, nodeWell, freeWell, eachOnce, linksWell}
+use Rattle.tree.specs.Rules.{aliveness, kidsWell, nodeWell, freeWell, eachOnce, linksWell, linked}
 use Rattle.tree.specs.declared.Ui.{Ui}
 use Rattle.tree.specs.declared.Slot.{Slot}
 use Rattle.tree.proofs.TestLaws.{same-yes, same-refl, δ-refl, zero-cases}
@@ -135,7 +135,7 @@ module _ {X : Type 0} {n : ℕ} {s : Slots} {free : ℕ} {t : Forest X} {fl : Li
 module _ {X : Type 0} where
   -- the link rules hold of a tree whose slots, free head and live count are those of a forest
   pub links-well : (u : Ui) (t : Forest X) (fl : List ℕ) → Rel (limitOf u) (u .slots) (u .free) t fl → u .live ≡ size t → linksWell u ≡ true
-  unfolding linksWell
+  unfolding linksWell linked
   links-well u t fl r e =
       let s : Slots = u .slots in
       let o : List ℕ = order 128 s (0 ∷ []) in

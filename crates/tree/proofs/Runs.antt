@@ -14,7 +14,7 @@ use Rattle.tree.specs.Slots.{at, put, change, isLive, chain, chainBack, 
 use Rattle.tree.specs.Styles.{layoutAt, stateAt}
 use Rattle.tree.specs.States.{entryOf, patchStyle, touches, inPool, wear, bitsOf, bitsAt, wearAll, slotIn, bearing, refreshed, styledAt, tabledAt, bared, bareAll}
 use Rattle.tree.specs.Fields.{fieldOf, reclaimed, claimed}
-use Rattle.tree.specs.Rules.{kidsWell, nodeWell, freeWell, eachOnce, linksWell, stateWell, distinct, ownersWell, broken}
+use Rattle.tree.specs.Rules.{kidsWell, nodeWell, freeWell, eachOnce, linksWell, linked, stateWell, distinct, ownersWell, broken}
 use Rattle.tree.specs.Calls.{guarded, onLive, newSlot, newSlots, fresh, newTree, insertAt, insert, resetStates, removeAt, remove, setStyle, setStateTable, pooled, setPatchPool, makeField, onField, fieldText, fieldCursor, solve, rect, live, firstChild, nextSibling}
 
 -- The node of a slot in its g-th use.
@@ -23,5 +23,5 @@ named i g = record { index = i; generation = g }
 
 -- A node gets a field and goes, and the next takes its slot.
 pub a-reused-slot-has-no-field : fieldText (insert (remove (makeField (insert (newTree 2 .next) (named 0 1) .next) (named 1 1) .next) (named 1 1) .next) (named 0 1) .next) (named 1 2) .answer .number ≡ 8
-unfolding stop addSat subSat gapTimes maxOf unsignedOf within isScalar allScalars encoded encodedAll encodedAs leadOf stepOf runFrom isUtf8 scalarsFrom scalars backOf front stepBack stepForward emptyField inRange fieldOk moved cutOut putIn stepBackOf stepForwardOf editedIn edited inserted editAnswer insertAnswer shownOf textOf withText same δ withNodes withLooks withPool withStated withFields withPass withInteraction withWaiting at put change isLive chain chainBack kidsAt order linkAfter linkLast unlinkFrom unlink freeOrder freeing aged freed layoutAt stateAt entryOf patchStyle touches inPool wear bitsOf bitsAt wearAll slotIn bearing refreshed styledAt tabledAt bared bareAll fieldOf reclaimed claimed kidsWell nodeWell freeWell eachOnce linksWell stateWell distinct ownersWell broken guarded onLive newSlot newSlots fresh newTree insertAt insert resetStates removeAt remove setStyle setStateTable pooled setPatchPool makeField onField fieldText fieldCursor solve rect live firstChild nextSibling
+unfolding stop addSat subSat gapTimes maxOf unsignedOf within isScalar allScalars encoded encodedAll encodedAs leadOf stepOf runFrom isUtf8 scalarsFrom scalars backOf front stepBack stepForward emptyField inRange fieldOk moved cutOut putIn stepBackOf stepForwardOf editedIn edited inserted editAnswer insertAnswer shownOf textOf withText same δ withNodes withLooks withPool withStated withFields withPass withInteraction withWaiting at put change isLive chain chainBack kidsAt order linkAfter linkLast unlinkFrom unlink freeOrder freeing aged freed layoutAt stateAt entryOf patchStyle touches inPool wear bitsOf bitsAt wearAll slotIn bearing refreshed styledAt tabledAt bared bareAll fieldOf reclaimed claimed kidsWell nodeWell freeWell eachOnce linksWell linked stateWell distinct ownersWell broken guarded onLive newSlot newSlots fresh newTree insertAt insert resetStates removeAt remove setStyle setStateTable pooled setPatchPool makeField onField fieldText fieldCursor solve rect live firstChild nextSibling
 a-reused-slot-has-no-field = refl

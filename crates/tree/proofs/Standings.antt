@@ -15,7 +15,7 @@ use Rattle.field.specs.declared.NodeId.{NodeId}
 use Rattle.tree.specs.Tests.{same, all, occ, headOr, fromTo}
 use Rattle.tree.specs.Slots.{Slots, NIL, at, isLive, order, chain, kidsAt}
 use Rattle.tree.specs.Trees.{limitOf, statedOf}
-use Rattle.tree.specs.Rules.{broken, linksWell, eachOnce, aliveness, nodeWell, freeWell, stateWell, distinct, ownersWell}
+use Rattle.tree.specs.Rules.{broken, linksWell, linked, eachOnce, aliveness, nodeWell, freeWell, stateWell, distinct, ownersWell}
 use Rattle.tree.specs.Calls.{Outcome, refuses, guarded, onLive}
 use Rattle.tree.specs.Answers.{standing}
 use Rattle.tree.specs.declared.Ui.{Ui}
@@ -113,7 +113,7 @@ module _ (u : Ui) (b : broken u ≡ false) where
       && (leb (u .«stated_count») 3 && (distinct (limitOf u) (statedOf u) && (leb (u .«output_count») (limitOf u) && (ownersWell (u .fields) && all fieldOk (u .fields)))))) b
 
   parts : (eachOnce (limitOf u) (u .slots) reached free ≡ true) × (same (u .free) (headOr NIL free) ≡ true) × (same (u .live) (length reached) ≡ true)
-  unfolding linksWell
+  unfolding linksWell linked
   parts =
       second-fourth-sixth
       (at (u .slots) 0 .live && (same (at (u .slots) 0 .parent) NIL && (same (at (u .slots) 0 .«prev_sibling») NIL && same (at (u .slots) 0 .«next_sibling») NIL)))

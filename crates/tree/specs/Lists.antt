@@ -1,9 +1,10 @@
 -- A list of slots kept in an array of 128 with a count.
-use Prim.Native.Nat.{ℕ, _+_}
+use Prim.Native.Nat.{ℕ, _+_, _<_}
+use mathlib.Core.Path.{_≡_}
 use mathlib.Core.List.{List, [], _∷_}
 use lib.Dec.{ltb}
-use lib.ListN.{set, take, replicate}
-use Rattle.tree.specs.Tests.{pick}
+use lib.ListN.{getD, set, take, replicate}
+use Rattle.tree.specs.Tests.{pick, occ}
 use Rattle.tree.specs.declared.links.Order.{Order}
 
 -- An array and a count.
@@ -26,3 +27,11 @@ added o i = pick (ltb (o .count) 128) (record { items = set (o .items) (o .count
 unfoldable pub addedAll : Order → List ℕ → Order
 addedAll o [] = o
 addedAll o (i ∷ is) = addedAll (added o i) is
+
+-- Every item is a slot's index.
+abbrev pub Small : List ℕ → Type 0
+Small l = (i : ℕ) → getD l i 0 < 128
+
+-- The array has for each slot how often it occurs in the list.
+abbrev pub Tallied : List ℕ → List ℕ → Type 0
+Tallied times l = (j : ℕ) → j < 128 → getD times j 0 ≡ occ j l

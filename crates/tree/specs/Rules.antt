@@ -38,20 +38,26 @@ freeWell s [] = true
 freeWell s (i ∷ is) = same (at s i .«next_sibling») (headOr NIL is) && freeWell s is
 
 -- Live nodes are just those reached from the root, each once; the free chain holds each dead slot once; nothing else is in either.
+abbrev pub once : Slots → List ℕ → List ℕ → ℕ → Bool
+once s reached free i = same (occ i reached) (aliveness (at s i)) && same (occ i reached + occ i free) 1
+
 unfoldable pub eachOnce : ℕ → Slots → List ℕ → List ℕ → Bool
 eachOnce n s reached free =
-    all (λ (i : ℕ). same (occ i reached) (aliveness (at s i)) && same (occ i reached + occ i free) 1) (fromTo 0 n)
+    all (once s reached free) (fromTo 0 n)
     && (all (λ (i : ℕ). ltb i n) reached && all (λ (i : ℕ). ltb i n) free)
 
-unfoldable pub linksWell : Ui → Bool
-linksWell u =
-    let s = u .slots in
+-- The links of a tree: its limit, its slots, the head of its free chain and its count of live nodes.
+unfoldable pub linked : ℕ → Slots → ℕ → ℕ → Bool
+linked n s head live =
     let reached = order 128 s (0 ∷ []) in
-    let free = chain 128 s (u .free) in
+    let free = chain 128 s head in
     (at s 0 .live && (same (at s 0 .parent) NIL && (same (at s 0 .«prev_sibling») NIL && same (at s 0 .«next_sibling») NIL)))
-    && (eachOnce (limitOf u) s reached free
+    && (eachOnce n s reached free
     && (all (nodeWell s) reached
-    && (same (u .free) (headOr NIL free) && (freeWell s free && same (u .live) (length reached)))))
+    && (same head (headOr NIL free) && (freeWell s free && same live (length reached)))))
+
+unfoldable pub linksWell : Ui → Bool
+linksWell u = linked (limitOf u) (u .slots) (u .free) (u .live)
 
 -- Worn and table numbers in the pool or 65535; bits at most 7.
 unfoldable pub stateWell : ℕ → StateSlot → Bool

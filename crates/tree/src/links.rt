@@ -1,12 +1,10 @@
 // Slots and their links, over the array of slots by value. An index that is no slot reads the zero slot and stores nothing.
 ghost use mathlib.Core.Path.{_≡_};
-ghost use Rattle.tree.specs.Slots.{at, put, isLive, idAt, change, setFirst, setLast, setPrev, setNext, linkLast, NIL, Slots, LinksOf, chain, kidsAt, order, freeOrder, idle, aged, freed};
+ghost use Rattle.tree.specs.Slots.{at, put, isLive, idAt, change, setFirst, setLast, setPrev, setNext, linkLast, NIL, Slots, LinksOf, freeOrder, idle, aged, freed};
 ghost use Rattle.tree.specs.Slots as links;
 ghost use Prim.Native.Nat.{_≤_};
-ghost use mathlib.Core.List.{[], _∷_};
 ghost use lib.ListN.{length, getD, take};
 ghost use Rattle.tree.specs.Lists.{listed, orderOf, noneListed, addedAll};
-ghost use Rattle.tree.specs.Lists as lists;
 ghost use Rattle.tree.specs.Tests.{pick, same, finalOr};
 ghost use Rattle.tree.specs.declared.Slot.{Slot};
 use crate::Slot;
@@ -177,23 +175,6 @@ fn none_listed() -> Order
     }
 }
 
-// The list with slot i after it, where there is room.
-fn added(o: Order, i: u32) -> Order
-    ensures { λ r. ⌜ r ≡ lists.added o i ⌝ }
-{
-    let n = o.count;
-    if n < 128 {
-        let mut items = o.items;
-        let k = n as usize;
-        items[k] = i;
-        return Order {
-            items: items,
-            count: n + 1,
-        };
-    }
-    o
-}
-
 // The last child of each slot.
 fn last_links(slots: [Slot; 128]) -> [u32; 128]
     ensures { λ r. ⌜ LinksOf slots (λ (s : Slot). s .«last_child») r ⌝ }
@@ -352,78 +333,6 @@ pub(crate) fn free_listed(slots: [Slot; 128], free: u32, o: Order) -> Freed
     while k < n {
         let i = listed_at(o, k, 0);
         out = free_one(out, i);
-        k += 1;
-    }
-    out
-}
-
-// The list with the slots from c on by next links after it.
-pub(crate) fn list_chain(slots: [Slot; 128], o: Order, c: u32) -> Order
-    ensures { λ r. ⌜ r ≡ addedAll o (chain 128 slots c) ⌝ }
-{
-    let mut out = o;
-    let mut i = c;
-    let mut left: u32 = 128;
-    while 0 < left {
-        if 128 <= i {
-            return out;
-        }
-        let s = slot_at(slots, i);
-        out = added(out, i);
-        i = s.next_sibling;
-        left -= 1;
-    }
-    out
-}
-
-// The list with the children of slot i after it.
-fn list_children(slots: [Slot; 128], o: Order, i: u32) -> Order
-    ensures { λ r. ⌜ r ≡ addedAll o (kidsAt slots i) ⌝ }
-{
-    let s = slot_at(slots, i);
-    list_chain(slots, o, s.first_child)
-}
-
-// The slots from c on by next links.
-pub(crate) fn chain_from(slots: [Slot; 128], c: u32) -> Order
-    ensures { λ r. ⌜ listed r ≡ chain 128 slots c ⌝ }
-{
-    let none = none_listed();
-    list_chain(slots, none, c)
-}
-
-// The children of slot i in order.
-pub(crate) fn children(slots: [Slot; 128], i: u32) -> Order
-    ensures { λ r. ⌜ listed r ≡ kidsAt slots i ⌝ }
-{
-    let s = slot_at(slots, i);
-    chain_from(slots, s.first_child)
-}
-
-// The last slot listed, or d.
-pub(crate) fn last_listed(o: Order, d: u32) -> u32
-    ensures { λ r. ⌜ r ≡ finalOr d (listed o) ⌝ }
-{
-    let n = listed_count(o);
-    if n == 0 {
-        return d;
-    }
-    listed_at(o, n - 1, d)
-}
-
-// The node and all below it, parents before children, a level at a time. The list is its own queue.
-pub(crate) fn level_order(slots: [Slot; 128], node: u32) -> Order
-    ensures { λ r. ⌜ (r .count ≤ 128) × (listed r ≡ order 128 slots (node ∷ [])) ⌝ }
-{
-    let none = none_listed();
-    let mut out = added(none, node);
-    let mut k: u32 = 0;
-    while k < 128 {
-        if out.count <= k {
-            return out;
-        }
-        let i = listed_at(out, k, 0);
-        out = list_children(slots, out, i);
         k += 1;
     }
     out

@@ -1,108 +1,126 @@
 // The link rules: whether the slots' links make one tree and one free chain.
 ghost use mathlib.Core.Path.{_≡_};
-ghost use Prim.Native.Nat.{ℕ, _+_};
+ghost use mathlib.Core.List.{List, [], _∷_};
+ghost use Prim.Native.Nat.{ℕ, _+_, _≤_};
 ghost use mathlib.Core.Bool.{_&&_};
 ghost use lib.Dec.{ltb};
-ghost use Rattle.tree.specs.Tests.{same, δ, occ, all, fromTo};
-ghost use Rattle.tree.specs.Slots.{NIL, at};
-ghost use Rattle.tree.specs.Lists.{listed};
+ghost use lib.ListN.{take};
+ghost use Rattle.tree.specs.Tests.{same, headOr, all, fromTo};
+ghost use Rattle.tree.specs.Slots.{NIL, at, chain, order};
+ghost use Rattle.tree.specs.Lists.{orderOf, added, Small, Tallied};
 ghost use Rattle.tree.specs.Rules as rules;
-ghost use Rattle.tree.specs.Rules.{aliveness, kidsWell, nodeWell, freeWell, eachOnce, linksWell};
+ghost use Rattle.tree.specs.Rules.{aliveness, once, nodeWell, freeWell, eachOnce, linked};
 use crate::Slot;
 use crate::Ui;
 use crate::fields::fields_ok;
 use crate::fields::owners_well;
-use crate::links::Order;
-use crate::links::chain_from;
-use crate::links::children;
-use crate::links::last_listed;
-use crate::links::level_order;
-use crate::links::listed_at;
-use crate::links::listed_count;
-use crate::links::slot_at;
 use crate::state;
 
 // No neighbour.
 const NIL: u32 = 4294967295;
 
-// Whether a child has this parent and these siblings.
-fn kid_well(s: Slot, parent: u32, prev: u32, next: u32) -> bool
-    ensures { λ r. ⌜ r ≡ (same (s .parent) parent && (same (s .«prev_sibling») prev && same (s .«next_sibling») next)) ⌝ }
-{
-    (s.parent == parent) & ((s.prev_sibling == prev) & (s.next_sibling == next))
+// What a walk along links listed, the first `count` items, and whether the links that it went along are right.
+pub(crate) struct Walked {
+    pub items: [u32; 128],
+    pub count: u32,
+    pub well: bool,
 }
 
-// Whether the children listed have this parent and each other as siblings.
-fn kids_well(slots: [Slot; 128], parent: u32, kids: Order) -> bool
-    ensures { λ r. ⌜ r ≡ kidsWell slots parent NIL (listed kids) ⌝ }
+// One slot more behind the first `count` items, where there is room; returns how many are listed then.
+fn push(items: &mut [u32; 128], count: u32, i: u32) -> u32
+    ensures { λ r. ⌜ orderOf (now (items .exit)) r ≡ added (orderOf (now (items .entry)) count) i ⌝ }
 {
-    let n = listed_count(kids);
+    if 128 <= count {
+        return count;
+    }
+    let k = count as usize;
+    items[k] = i;
+    count + 1
+}
+
+// The slots reached from the root, parents before children, and whether the links of each to its children are right. The list is its
+// own queue: `at` is the place of the node whose children are passed.
+pub(crate) fn reach(slots: [Slot; 128]) -> Walked
+    ensures { λ r. ⌜ (r .count ≤ 128) × Small (r .items) × (take (r .count) (r .items) ≡ order 128 slots (0 ∷ [])) × (r .well ≡ all (nodeWell slots) (order 128 slots (0 ∷ []))) ⌝ }
+{
+    let mut items = [0u32; 128];
+    let mut count: u32 = 1;
+    let mut at: u32 = 0;
+    let mut s = slots[0];
+    let mut node: u32 = 0;
+    let mut child = s.first_child;
+    let mut last = s.last_child;
     let mut prev = NIL;
-    let mut k: u32 = 0;
-    while k < n {
-        let c = listed_at(kids, k, 0);
-        let next = listed_at(kids, k + 1, NIL);
-        let s = slot_at(slots, c);
-        if !kid_well(s, parent, prev, next) {
-            return false;
+    let mut left: u32 = 128;
+    let mut well = true;
+    while at < count {
+        if child < 128 {
+            if 0 < left {
+                let k = child as usize;
+                s = slots[k];
+                well = well & ((s.parent == node) & (s.prev_sibling == prev));
+                count = push(&mut items, count, child);
+                prev = child;
+                child = s.next_sibling;
+                left -= 1;
+                continue;
+            }
         }
-        prev = c;
-        k += 1;
-    }
-    true
-}
-
-// Whether the slot's links to its children are right.
-pub(crate) fn node_well(slots: [Slot; 128], i: u32) -> bool
-    ensures { λ r. ⌜ r ≡ nodeWell slots i ⌝ }
-{
-    let s = slot_at(slots, i);
-    let kids = children(slots, i);
-    let first = listed_at(kids, 0, NIL);
-    let last = last_listed(kids, NIL);
-    let well = kids_well(slots, i, kids);
-    (s.first_child == first) & ((s.last_child == last) & well)
-}
-
-// Whether each slot listed has the one after it as its next, and the last has none.
-pub(crate) fn free_well(slots: [Slot; 128], chain: Order) -> bool
-    ensures { λ r. ⌜ r ≡ freeWell slots (listed chain) ⌝ }
-{
-    let n = listed_count(chain);
-    let mut k: u32 = 0;
-    while k < n {
-        let i = listed_at(chain, k, 0);
-        let next = listed_at(chain, k + 1, NIL);
-        let s = slot_at(slots, i);
-        if s.next_sibling != next {
-            return false;
+        well = well & ((child == NIL) & (last == prev));
+        at += 1;
+        if count <= at {
+            return Walked { items, count, well };
         }
-        k += 1;
+        let k = at as usize;
+        node = items[k];
+        let k = (node % 128) as usize;
+        s = slots[k];
+        child = s.first_child;
+        last = s.last_child;
+        prev = NIL;
+        left = 128;
     }
-    true
+    Walked { items, count, well }
 }
 
-// 1 where the numbers are equal, else 0.
-fn same_count(i: u32, j: u32) -> u32
-    ensures { λ r. ⌜ r ≡ δ i j ⌝ }
+// The slots from `free` on by next links, and whether the last has none.
+pub(crate) fn free_chain(slots: [Slot; 128], free: u32) -> Walked
+    ensures { λ r. ⌜ (r .count ≤ 128) × Small (r .items) × (take (r .count) (r .items) ≡ chain 128 slots free) × (r .well ≡ (same free (headOr NIL (chain 128 slots free)) && freeWell slots (chain 128 slots free))) ⌝ }
 {
-    if i == j {
-        return 1;
+    let mut items = [0u32; 128];
+    let mut count: u32 = 0;
+    let mut i = free;
+    while i < 128 {
+        if 128 <= count {
+            return Walked {
+                items,
+                count,
+                well: false,
+            };
+        }
+        let n = count as usize;
+        items[n] = i;
+        count += 1;
+        let k = i as usize;
+        let s = slots[k];
+        i = s.next_sibling;
     }
-    0
+    let well = i == NIL;
+    Walked { items, count, well }
 }
 
-// How often slot j is listed.
-fn times_listed(o: Order, j: u32) -> u32
-    ensures { λ r. ⌜ r ≡ occ j (listed o) ⌝ }
+// How often each slot is among the first `count` items.
+fn tally(items: [u32; 128], count: u32) -> [u32; 128]
+    requires { ⌜ (count ≤ 128) × Small items ⌝ }
+    ensures { λ r. ⌜ Tallied r (take count items) ⌝ }
 {
-    let n = listed_count(o);
-    let mut times: u32 = 0;
+    let mut times = [0u32; 128];
     let mut k: u32 = 0;
-    while k < n {
-        let i = listed_at(o, k, 0);
-        let one = same_count(i, j);
-        times += one;
+    while k < count {
+        let n = k as usize;
+        let i = (items[n] % 128) as usize;
+        let t = times[i];
+        times[i] = t + 1;
         k += 1;
     }
     times
@@ -118,25 +136,25 @@ fn live_count(s: Slot) -> u32
     0
 }
 
-// Whether slot i is in one of the two lists once, and in the first just where it is live.
-fn once_well(slots: [Slot; 128], reached: Order, free: Order, i: u32) -> bool
-    ensures { λ r. ⌜ r ≡ (same (occ i (listed reached)) (aliveness (at slots i)) && same (occ i (listed reached) + occ i (listed free)) 1) ⌝ }
+// Whether a slot is in one of two lists once, and in the first just where it is live: how often it is in each.
+fn once_well(s: Slot, reached: u32, free: u32) -> bool
+    ensures { λ r. ⌜ r ≡ (same reached (aliveness s) && same (reached + free) 1) ⌝ }
 {
-    let a = times_listed(reached, i);
-    let b = times_listed(free, i);
-    let s = slot_at(slots, i);
     let live = live_count(s);
-    let total = (a as u64) + (b as u64);
-    (a == live) & (total == 1)
+    let total = (reached as u64) + (free as u64);
+    (reached == live) & (total == 1)
 }
 
 // Whether that holds of every slot below the limit.
-fn all_once(limit: u32, slots: [Slot; 128], reached: Order, free: Order) -> bool
-    ensures { λ r. ⌜ r ≡ all (λ (i : ℕ). same (occ i (listed reached)) (aliveness (at slots i)) && same (occ i (listed reached) + occ i (listed free)) 1) (fromTo 0 limit) ⌝ }
+fn all_once(limit: u32, slots: [Slot; 128], reached: [u32; 128], free: [u32; 128]) -> bool
+    requires { ⌜ limit ≤ 128 ⌝ }
+    ensures { λ r. ⌜ ((l m : List ℕ) → Tallied reached l → Tallied free m → r ≡ all (once slots l m) (fromTo 0 limit)) ⌝ }
 {
     let mut i: u32 = 0;
     while i < limit {
-        if !once_well(slots, reached, free, i) {
+        let k = i as usize;
+        let s = slots[k];
+        if !once_well(s, reached[k], free[k]) {
             return false;
         }
         i += 1;
@@ -144,31 +162,15 @@ fn all_once(limit: u32, slots: [Slot; 128], reached: Order, free: Order) -> bool
     true
 }
 
-// Whether every slot listed is below the limit.
-fn all_below(limit: u32, o: Order) -> bool
-    ensures { λ r. ⌜ r ≡ all (λ (i : ℕ). ltb i limit) (listed o) ⌝ }
+// Whether the first `count` items are all below the limit.
+fn all_below(limit: u32, items: [u32; 128], count: u32) -> bool
+    requires { ⌜ count ≤ 128 ⌝ }
+    ensures { λ r. ⌜ r ≡ all (λ (i : ℕ). ltb i limit) (take count items) ⌝ }
 {
-    let n = listed_count(o);
     let mut k: u32 = 0;
-    while k < n {
-        let i = listed_at(o, k, 0);
-        if limit <= i {
-            return false;
-        }
-        k += 1;
-    }
-    true
-}
-
-// Whether the links of every slot listed to its children are right.
-fn nodes_well(slots: [Slot; 128], o: Order) -> bool
-    ensures { λ r. ⌜ r ≡ all (nodeWell slots) (listed o) ⌝ }
-{
-    let n = listed_count(o);
-    let mut k: u32 = 0;
-    while k < n {
-        let i = listed_at(o, k, 0);
-        if !node_well(slots, i) {
+    while k < count {
+        let n = k as usize;
+        if limit <= items[n] {
             return false;
         }
         k += 1;
@@ -177,12 +179,17 @@ fn nodes_well(slots: [Slot; 128], o: Order) -> bool
 }
 
 // Whether each live slot is reached once, each dead one is free once, and nothing else is in either list.
-fn each_once(limit: u32, slots: [Slot; 128], reached: Order, free: Order) -> bool
-    ensures { λ r. ⌜ r ≡ eachOnce limit slots (listed reached) (listed free) ⌝ }
+fn each_once(limit: u32, slots: [Slot; 128], reached: Walked, free: Walked) -> bool
+    requires { ⌜ (limit ≤ 128) × ((reached .count ≤ 128) × Small (reached .items)) × ((free .count ≤ 128) × Small (free .items)) ⌝ }
+    ensures { λ r. ⌜ r ≡ eachOnce limit slots (take (reached .count) (reached .items)) (take (free .count) (free .items)) ⌝ }
 {
-    let once = all_once(limit, slots, reached, free);
-    let live = all_below(limit, reached);
-    let dead = all_below(limit, free);
+    let l = reached.items;
+    let m = free.items;
+    let a = tally(l, reached.count);
+    let b = tally(m, free.count);
+    let once = all_once(limit, slots, a, b);
+    let live = all_below(limit, l, reached.count);
+    let dead = all_below(limit, m, free.count);
     once & (live & dead)
 }
 
@@ -190,25 +197,20 @@ fn each_once(limit: u32, slots: [Slot; 128], reached: Order, free: Order) -> boo
 fn root_well(slots: [Slot; 128]) -> bool
     ensures { λ r. ⌜ r ≡ (at slots 0 .live && (same (at slots 0 .parent) NIL && (same (at slots 0 .«prev_sibling») NIL && same (at slots 0 .«next_sibling») NIL))) ⌝ }
 {
-    let s = slot_at(slots, 0);
+    let s = slots[0];
     s.live & ((s.parent == NIL) & ((s.prev_sibling == NIL) & (s.next_sibling == NIL)))
 }
 
-// Whether the tree keeps all link rules.
-pub(crate) fn links_well(u: Ui) -> bool
-    ensures { λ r. ⌜ r ≡ linksWell u ⌝ }
+// Whether the links of a tree of this limit keep all link rules.
+pub(crate) fn links_well(limit: u32, slots: [Slot; 128], free: u32, live: u32) -> bool
+    requires { ⌜ limit ≤ 128 ⌝ }
+    ensures { λ r. ⌜ r ≡ linked limit slots free live ⌝ }
 {
-    let slots = u.slots;
-    let reached = level_order(slots, 0);
-    let free = chain_from(slots, u.free);
+    let reached = reach(slots);
+    let chain = free_chain(slots, free);
     let root = root_well(slots);
-    let limits = u.limits;
-    let each = each_once(limits.nodes, slots, reached, free);
-    let nodes = nodes_well(slots, reached);
-    let head = listed_at(free, 0, NIL);
-    let chained = free_well(slots, free);
-    let count = listed_count(reached);
-    root & (each & (nodes & ((u.free == head) & (chained & (u.live == count)))))
+    let each = each_once(limit, slots, reached, chain);
+    root & (each & (reached.well & (chain.well & (live == reached.count))))
 }
 
 // Whether the tree breaks a rule, the link rules or another.
@@ -217,10 +219,14 @@ pub fn broken(u: Ui) -> bool
 {
     let limits = u.limits;
     let n = limits.nodes;
+    if 128 < n {
+        return true;
+    }
+    let slots = u.slots;
     let states = u.states;
     let stated = u.stated;
     let fields = u.fields;
-    let linked = links_well(u);
+    let linked = links_well(n, slots, u.free, u.live);
     let worn = state::states_well(u.patch_count, n, states);
     let bearing = state::stated_well(n, stated, u.stated_count);
     let owners = owners_well(fields);

@@ -1,28 +1,48 @@
 -- Rule by rule, each by its contract; the two about stated slots are one test in the code. Assumes nothing.
-use mathlib.Core.Path.{_≡_, refl, sym, ap, _∙_}
+use mathlib.Core.Path.{_≡_, refl, ap}
 use mathlib.Core.Bool.{Bool, true, false, _&&_, not}
 use lib.Dec.{leb}
 use lib.ListN.{take}
-use borrow.Author.Needs.{needs}
+use borrow.Author.Tests.{lt-leb}
 use Rattle.field.specs.Fields.{fieldOk}
 use Rattle.tree.specs.Tests.{all}
 use Rattle.tree.specs.Trees.{limitOf, statedOf}
-use Rattle.tree.specs.Rules.{linksWell, stateWell, distinct, ownersWell, broken}
+use Rattle.tree.specs.Rules.{linked, linksWell, stateWell, distinct, ownersWell, broken}
 use Rattle.tree.specs.declared.Ui.{Ui}
+use borrow.Author.Needs.{needs}
 use Rattle.tree.proofs.rules.broken.Statement.{statement}
 use Rattle.tree.proofs.rules.broken.Tie as tie
+use Rattle.tree.proofs.rules.broken.Reads as reads
+use Rattle.tree.proofs.rules.broken.Lts as lts
+use Rattle.tree.proofs.fields.fields_ok.Reads as fields-ok-reads
+use Rattle.tree.proofs.fields.owners_well.Reads as owners-well-reads
+use Rattle.tree.proofs.rules.links_well.Reads as links-well-reads
+use Rattle.tree.proofs.state.stated_well.Reads as stated-well-reads
+use Rattle.tree.proofs.state.states_well.Reads as states-well-reads
 
 regrouped : (a b c : Bool) → ((a && b) && c) ≡ (a && (b && c))
 regrouped true b c = refl
 regrouped false b c = refl
 
-rule-by-rule : (u : Ui) {l w s o t : Bool} → l ≡ linksWell u → w ≡ all (stateWell (u .«patch_count»)) (take (limitOf u) (u .states)) → s ≡ (leb (u .«stated_count») 3 && distinct (limitOf u) (statedOf u))
+rule-by-rule : (u : Ui) {l w s o t : Bool} → l ≡ linked (limitOf u) (u .slots) (u .free) (u .live) → w ≡ all (stateWell (u .«patch_count»)) (take (limitOf u) (u .states)) → s ≡ (leb (u .«stated_count») 3 && distinct (limitOf u) (statedOf u))
     → o ≡ ownersWell (u .fields) → t ≡ all fieldOk (u .fields)
     → not ((leb 1 (limitOf u) && leb (limitOf u) 128) && (leb (u .«patch_count») 64 && (l && (w && (s && (leb (u .«output_count») (limitOf u) && (o && t))))))) ≡ broken u
-unfolding broken
+unfolding broken linksWell
 rule-by-rule u l w s o t =
-    rw (l, w, s, o, t) (ap (λ (b : Bool). not ((leb 1 (limitOf u) && leb (limitOf u) 128) && (leb (u .«patch_count») 64 && (linksWell u && (all (stateWell (u .«patch_count»)) (take (limitOf u) (u .states)) && b)))))
+    rw (l, w, s, o, t) (ap (λ (b : Bool). not ((leb 1 (limitOf u) && leb (limitOf u) 128) && (leb (u .«patch_count») 64 && (linked (limitOf u) (u .slots) (u .free) (u .live) && (all (stateWell (u .«patch_count»)) (take (limitOf u) (u .states)) && b)))))
     (regrouped (leb (u .«stated_count») 3) (distinct (limitOf u) (statedOf u)) (leb (u .«output_count») (limitOf u) && (ownersWell (u .fields) && all fieldOk (u .fields)))))
+
+-- a limit above 128
+too-large : (u : Ui) → leb (limitOf u) 128 ≡ false → true ≡ broken u
+unfolding broken
+too-large u h = rw h (go (leb 1 (limitOf u)) _)
+  where
+    go : (a b : Bool) → true ≡ not ((a && false) && b)
+    go true b = refl
+    go false b = refl
+
+returns : tie.Need-returns
+returns c = too-large (c .before .before .args .u) (lt-leb _ _ (c .if1 .taken))
 
 links-well-requires : tie.Need-links-well-requires
 links-well-requires c κs = search needs
@@ -39,18 +59,17 @@ owners-well-requires c κs = search needs
 fields-ok-requires : tie.Need-fields-ok-requires
 fields-ok-requires c κs = search needs
 
-returns : tie.Need-returns
-returns c =
-    let b = c .before .before in
-    rule-by-rule (b .before .before .before .before .before .before .before .before .before .args .u) (b .before .before .before .before .links-well .ensures) (b .before .before .before .states-well .ensures) (b .before .before .stated-well .ensures) (b .before .owners-well .ensures) (b .fields-ok .ensures)
+returns-2 : tie.Need-returns-2
+returns-2 c = rule-by-rule (c .before .before .before .before .before .before .before .before .before .before .before .before .before .args .u) (c .before .before .before .before .before .before .links-well .ensures) (c .before .before .before .before .before .states-well .ensures) (c .before .before .before .before .stated-well .ensures) (c .before .before .before .owners-well .ensures) (c .before .before .fields-ok .ensures)
 
 pub broken-spec : {M : Type 1} → statement M
 broken-spec =
     tie.close
     (tie.spec
+    returns
     links-well-requires
     states-well-requires
     stated-well-requires
     owners-well-requires
     fields-ok-requires
-    returns)
+    returns-2)

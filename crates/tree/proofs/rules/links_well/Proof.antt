@@ -1,15 +1,24 @@
--- The definition's rules, on the two lists that were made. Assumes nothing.
+-- The definition's rules, on what the two walks give. Assumes nothing.
+use mathlib.Core.Path.{_≡_, sym}
+use native.Mathlib.Omega.{arith}
+use lib.ListN.{length, take}
+use lib.Seq.{length-take-le}
 use Rattle.tree.proofs.CheckLaws.{links-whole}
-use Rattle.tree.specs.Lists.{listed}
 use borrow.Author.Needs.{needs}
 use Rattle.tree.proofs.rules.links_well.Statement.{statement}
 use Rattle.tree.proofs.rules.links_well.Tie as tie
+use Rattle.tree.proofs.rules.links_well.Reads as reads
+use Rattle.tree.proofs.rules.links_well.Lts as lts
+use Rattle.tree.proofs.rules.each_once.Reads as each-once-reads
+use Rattle.tree.proofs.rules.free_chain.Reads as free-chain-reads
+use Rattle.tree.proofs.rules.reach.Reads as reach-reads
+use Rattle.tree.proofs.rules.root_well.Reads as root-well-reads
 
-level-order-requires : tie.Need-level-order-requires
-level-order-requires c κs = search needs
+reach-requires : tie.Need-reach-requires
+reach-requires c κs = search needs
 
-chain-from-requires : tie.Need-chain-from-requires
-chain-from-requires c κs = search needs
+free-chain-requires : tie.Need-free-chain-requires
+free-chain-requires c κs = search needs
 
 root-well-requires : tie.Need-root-well-requires
 root-well-requires c κs = search needs
@@ -17,31 +26,15 @@ root-well-requires c κs = search needs
 each-once-requires : tie.Need-each-once-requires
 each-once-requires c κs = search needs
 
-nodes-well-requires : tie.Need-nodes-well-requires
-nodes-well-requires c κs = search needs
-
-listed-at-requires : tie.Need-listed-at-requires
-listed-at-requires c κs = search needs
-
-free-well-requires : tie.Need-free-well-requires
-free-well-requires c κs = search needs
-
-listed-count-requires : tie.Need-listed-count-requires
-listed-count-requires c κs = search needs
-
 returns : tie.Need-returns
-returns c = links-whole (c .before .before .before .before .before .before .before .before .before .before .before .before .args .u) {r = listed (c .before .before .before .before .before .before .before .before .before .before .level-order .result)} {f = listed (c .before .before .before .before .before .before .before .before .before .chain-from .result)} (c .before .before .before .before .before .before .before .before .before .before .level-order .ensures .1) (c .before .before .before .before .before .before .before .before .before .chain-from .ensures) (c .before .before .before .before .before .before .before .before .root-well .ensures) (c .before .before .before .before .before .before .each-once .ensures) (c .before .before .before .before .before .nodes-well .ensures) (c .before .before .before .before .listed-at .ensures) (c .before .before .before .free-well .ensures) (c .before .before .listed-count .ensures)
+returns c =
+    let r = c .before .before .before .before .before .before .reach in
+    let a = c .before .before .before .before .before .before .before .args in
+    let e : length (c .before .before .before .before .before .before .reach .result .items) ≡ 128 = search needs in
+    links-whole (a .limit) (a .slots) (a .free) (a .live) (r .ensures .2) (c .before .before .before .before .before .free-chain .ensures .2) (c .before .before .before .before .root-well .ensures) (c .before .before .before .each-once .ensures) (r .ensures .3) (c .before .before .before .before .before .free-chain .ensures .3)
+    (sym (length-take-le (r .result .count) (r .result .items) (omega (arith, e, r .ensures .0))))
 
 pub links-well-spec : {M : Type 1} → statement M
 links-well-spec =
     tie.close
-    (tie.spec
-    level-order-requires
-    chain-from-requires
-    root-well-requires
-    each-once-requires
-    nodes-well-requires
-    listed-at-requires
-    free-well-requires
-    listed-count-requires
-    returns)
+    (tie.spec reach-requires free-chain-requires root-well-requires each-once-requires returns)

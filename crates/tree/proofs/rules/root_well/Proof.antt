@@ -1,15 +1,19 @@
 -- The definition's tests, on the slot that was read. Assumes nothing.
+use mathlib.Core.Path.{refl}
+use Rattle.tree.specs.Slots.{at}
 use Rattle.tree.specs.Tests.{same}
 use borrow.Author.Needs.{needs}
 use Rattle.tree.proofs.rules.root_well.Statement.{statement}
 use Rattle.tree.proofs.rules.root_well.Tie as tie
+use Rattle.tree.proofs.rules.root_well.Reads as reads
+use Rattle.tree.proofs.rules.root_well.Lts as lts
 
-slot-at-requires : tie.Need-slot-at-requires
-slot-at-requires c κs = search needs
+array-copy-out-s : tie.Need-array-copy-out-s
+array-copy-out-s c = search needs
 
 returns : tie.Need-returns
-unfolding same
-returns c = rw (c .before .before .before .before .slot-at .ensures)
+unfolding at same
+returns c = refl
 
 pub root-well-spec : {M : Type 1} → statement M
-root-well-spec = tie.close (tie.spec slot-at-requires returns)
+root-well-spec = tie.close (tie.spec array-copy-out-s returns)
