@@ -1,23 +1,37 @@
 -- One step of a hit test's walks. Assumes nothing.
-use mathlib.Core.Path.{_≡_, refl, sym, _∙_}
+use mathlib.Core.Path.{_≡_, refl}
 use mathlib.Core.Bool.{Bool, true, false}
 use Prim.Native.Nat.{ℕ, zero, suc, _-_, _<_}
-use mathlib.Core.List.{List}
+use mathlib.Core.List.{List, []}
 use native.Mathlib.Omega.{arith}
-use lib.ListN.{getD}
 use Rattle.tree.specs.Tests.{pick}
-use Rattle.tree.specs.Slots.{Slots, kidsAt}
+use Rattle.tree.specs.Slots.{Slots, at, chain, kidsAt}
+use lib.ListN.{getD}
 use Rattle.tree.specs.Styles.{noLayout, layoutAt}
 use Rattle.tree.specs.Layout.{holds}
 use Rattle.tree.specs.Hit.{lastOf, descend, holdsAt}
 use Rattle.tree.specs.declared.LayoutSlot.{LayoutSlot}
 use Rattle.tree.specs.declared.Pointer.{Pointer}
+use Rattle.tree.proofs.ChainLaws.{chain-more}
 
-pub picked-yes : {X : Type 0} (t : Bool) (r a b : X) → t ≡ true → r ≡ a → r ≡ pick t a b
-picked-yes t r a b e h = rw e h
+-- The children of a slot from its first on.
+pub kids-whole : (l : List LayoutSlot) (pixel : Pointer) (s : Slots) (i : ℕ) → lastOf (holdsAt l pixel) i (chain 128 s (at s i .«first_child»)) ≡ lastOf (holdsAt l pixel) i (kidsAt s i)
+unfolding kidsAt
+kids-whole l pixel s i = refl
 
-pub picked-no : {X : Type 0} (t : Bool) (r a b : X) → t ≡ false → r ≡ b → r ≡ pick t a b
-picked-no t r a b e h = rw e h
+-- One child further.
+pub last-more : (p : ℕ → Bool) (s : Slots) (k c d : ℕ) {f : ℕ} → (k ≡ 0 → ⊥) → c < 128 → f ≡ pick (p c) c d
+    → lastOf p f (chain (k - 1) s (at s c .«next_sibling»)) ≡ lastOf p d (chain k s c)
+unfolding lastOf
+last-more p s k c d h q e = rw (chain-more s k c h q, e)
+
+pub last-end : (p : ℕ → Bool) (s : Slots) (k c d : ℕ) → chain k s c ≡ [] → d ≡ lastOf p d (chain k s c)
+unfolding lastOf
+last-end p s k c d e = rw e
+
+pub picked-small : (b : Bool) (i d : ℕ) {r : ℕ} → r ≡ pick b i d → i < 128 → d < 128 → r < 128
+picked-small true i d e h q = omega (arith, e)
+picked-small false i d e h q = omega (arith, e)
 
 -- Where no child holds the pixel, the walk stays.
 pub descend-stays : (p : ℕ → Bool) (k : ℕ) (s : Slots) (i : ℕ) → lastOf p i (kidsAt s i) ≡ i → descend p k s i ≡ i

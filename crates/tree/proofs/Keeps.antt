@@ -12,11 +12,11 @@ use Rattle.tree.specs.Tests.{pick, same, occ}
 use Rattle.tree.specs.Slots.{isLive}
 use Rattle.tree.specs.States.{Looks, looksOf, bitsAt, slotIn, bearing, refreshed, wearAll, backwards}
 use Rattle.tree.specs.Trees.{limitOf, statedOf, over, withLooks, withStated}
-use Rattle.tree.specs.Wearing.{looking, wornAll, keptMore, keptLive}
+use Rattle.tree.specs.Wearing.{looking, wornAll, keptMore, keptLive, keptAs}
 use Rattle.tree.specs.declared.Ui.{Ui}
 use Rattle.tree.specs.declared.wearing.Kept.{Kept}
 use Rattle.tree.proofs.Stated.{not-in-one, not-in-two, spelt}
-use Rattle.tree.proofs.Wearings.{worn-all, slot-looks}
+use Rattle.tree.proofs.Wearings.{worn-all}
 
 -- a slot is new where none, one or two are kept
 module _ (l : List ℕ) (i n : ℕ) where
@@ -29,10 +29,6 @@ module _ (l : List ℕ) (i n : ℕ) where
 
   pub new-of-two : length l ≡ 3 → n ≡ 2 → (not (eqb (getD l 0 0) i) && not (eqb (getD l 1 0) i)) ≡ same (occ i (take n l)) 0
   new-of-two h e = rw e (not-in-two (getD l 0 0) (getD l 1 0) i ∙ ap (λ (s : List ℕ). same (occ i (take 2 s)) 0) (spelt l h))
-
--- a list written over the front of an array
-abbrev keptAs : List ℕ → List ℕ → Kept
-keptAs l old = record { items = over l old; count = length l }
 
 take-over : (l s : List ℕ) → take (length l) (l ++ s) ≡ l
 take-over [] s = refl
@@ -107,26 +103,17 @@ module _ (u : Ui) (hover : MaybeId) where
       ∙ ap (λ (m : ℕ). keptLive u hover (record { items = k .items; count = m }) (a ++ b ++ c)) n
       ∙ all-kept (a ++ b ++ c) [] (k .items) (omega arith)
 
--- wearing changes no bits
-bear-looks : (u : Ui) (k : Looks) (hover : MaybeId) (l is : List ℕ) → bearing (looking u k) hover l is ≡ bearing u hover l is
-unfolding looking withLooks bearing bitsAt
-bear-looks u k hover l [] = refl
-bear-looks u k hover l (i ∷ is) = bear-looks u k hover (pick (same (bitsAt u hover i) 0 || not (same (occ i l) 0)) l (l ++ i ∷ [])) is
-
+-- the three that may have bits
 threeOf : Ui → MaybeId → List ℕ
 threeOf u hover = slotIn u hover ++ slotIn u (u .interaction .pressed) ++ slotIn u (u .interaction .focus)
 
-three-looks : (u : Ui) (k : Looks) (hover : MaybeId) → threeOf (looking u k) hover ≡ threeOf u hover
-unfolding threeOf looking withLooks
-three-looks u k hover =
-    ap₂ _++_ (ap₂ _++_ (slot-looks u k hover) (slot-looks u k (u .interaction .pressed))) (slot-looks u k (u .interaction .focus))
-
-pub refreshed-whole : (u : Ui) (hover : MaybeId) (v w : Ui)
-    → v ≡ wornAll u hover (backwards (statedOf u) ++ (slotIn u hover ++ slotIn u (u .interaction .pressed) ++ slotIn u (u .interaction .focus)))
-    → w ≡ withStated v (bearing v hover [] (slotIn v hover ++ slotIn v (v .interaction .pressed) ++ slotIn v (v .interaction .focus)))
-    → w ≡ refreshed u hover
-unfolding refreshed looking threeOf
-refreshed-whole u hover v w e f =
-    let k = wearAll u hover (looksOf u) (backwards (statedOf u) ++ threeOf u hover) in
-    f ∙ ap (λ (x : Ui). withStated x (bearing x hover [] (threeOf x hover))) (e ∙ worn-all u hover (backwards (statedOf u) ++ threeOf u hover))
-    ∙ ap (λ (l : List ℕ). withStated (looking u k) l) (bear-looks u k hover [] (threeOf (looking u k) hover) ∙ ap (λ (l : List ℕ). bearing u hover [] l) (three-looks u k hover))
+pub refreshed-whole : (u v : Ui) (hover : MaybeId) {l items : List ℕ} {n : ℕ} → v ≡ wornAll u hover l
+    → l ≡ backwards (statedOf u) ++ (slotIn u hover ++ slotIn u (u .interaction .pressed) ++ slotIn u (u .interaction .focus))
+    → record { items = items; count = n } ≡ keptAs (bearing u hover [] (slotIn u hover ++ slotIn u (u .interaction .pressed) ++ slotIn u (u .interaction .focus))) (u .stated)
+    → record { slots = v .slots; layout = v .layout; dirty = v .dirty; «solved_for» = v .«solved_for»; interaction = v .interaction; outputs = v .outputs; «output_count» = v .«output_count»; states = v .states; patches = v .patches; «patch_count» = v .«patch_count»; stated = items; «stated_count» = n; «layout_passes» = v .«layout_passes»; free = v .free; live = v .live; limits = v .limits; fields = v .fields }
+    ≡ refreshed u hover
+unfolding refreshed looking withLooks withStated threeOf
+refreshed-whole u v hover {l = l} {items = items} {n = n} e f k =
+    let w = wearAll u hover (looksOf u) (backwards (statedOf u) ++ threeOf u hover) in
+    let g : v ≡ looking u w = e ∙ ap (wornAll u hover) f ∙ worn-all u hover (backwards (statedOf u) ++ threeOf u hover) in
+    rw (g, ap (λ (x : Kept). x .items) k, ap (λ (x : Kept). x .count) k) refl

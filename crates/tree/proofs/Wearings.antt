@@ -1,23 +1,26 @@
 -- What wearing and baring do past the slots, and slot after slot. Assumes nothing.
-use mathlib.Core.Path.{_≡_, refl, sym, ap, _∙_}
-use mathlib.Core.Bool.{true, _||_}
-use mathlib.Core.List.{List, [], _∷_, _++_}
+use mathlib.Core.Path.{_≡_, refl, sym, ap, _∙_, subst}
+use mathlib.Core.Bool.{Bool, true, false, _||_}
+use mathlib.Core.List.{List, [], _∷_, _++_, append-nil}
 use Prim.Native.Nat.{ℕ, zero, suc, _+_, _-_, _≤_, _<_}
 use native.Mathlib.Omega.{arith}
 use borrow.Author.Tests.{lt-ltb}
 use lib.Dec.{ltb}
-use lib.ListN.{length, getD, take, List·getD-eq-default}
-use lib.Seq.{set-out}
+use lib.ListN.{length, getD, set, take, length-set, List·getD-eq-default}
+use lib.Seq.{set-out, take-suc, take-suc-set, take-all}
 use Rattle.field.specs.declared.MaybeId.{MaybeId}
 use Rattle.field.specs.declared.MaybeId.the-variants.{Absent, Present}
 use Rattle.tree.specs.Tests.{pick, same, fromTo}
+use Rattle.tree.specs.Slots.{idAt}
 use Rattle.tree.specs.Styles.{noState, noStyle, noPatch, layoutAt, stateAt, bareState}
-use Rattle.tree.specs.States.{Looks, looksOf, wearing, withStyle, wear, patchStyle, entryOf, touches, bared, bareAll, based, tabled, styledAt, tabledAt, wearAll, bitsAt, slotIn, backwards}
-use Rattle.tree.specs.Trees.{poolOf, withLooks}
-use Rattle.tree.specs.Wearing.{looking, wornAll}
+use Rattle.tree.specs.States.{Looks, looksOf, wearing, withStyle, wear, patchStyle, entryOf, touches, bared, bareAll, based, tabled, styledAt, tabledAt, wearAll, bitsOf, bitsAt, isId, slotIn, backwards}
+use Rattle.tree.specs.Trees.{limitOf, poolOf, withLooks}
+use Rattle.tree.specs.Wearing.{looking, wornAll, liveSlot}
 use Rattle.tree.specs.declared.Ui.{Ui}
 use Rattle.tree.specs.declared.Style.{Style}
 use Rattle.tree.specs.declared.StatePatch.{StatePatch}
+use Rattle.tree.specs.declared.StateSlot.{StateSlot}
+use Rattle.tree.specs.declared.LayoutSlot.{LayoutSlot}
 
 -- past the slots a slot of zeros is read, and nothing is stored
 pub wear-past : (p : List StatePatch) (k : Looks) (i b : ℕ) → length (k .layout) ≤ i → length (k .states) ≤ i
@@ -89,20 +92,7 @@ pub worn-all : (u : Ui) (hover : MaybeId) (is : List ℕ) → wornAll u hover is
 unfolding looking withLooks
 worn-all u hover is = worn-looks u hover (looksOf u) is
 
-worn-join : (u : Ui) (hover : MaybeId) (a b : List ℕ) → wornAll u hover (a ++ b) ≡ wornAll (wornAll u hover a) hover b
-unfolding wornAll
-worn-join u hover [] b = refl
-worn-join u hover (i ∷ a) b = worn-join (looking u (wear (poolOf u) (looksOf u) i (bitsAt u hover i))) hover a b
-
-pub slot-looks : (u : Ui) (k : Looks) (m : MaybeId) → slotIn (looking u k) m ≡ slotIn u m
-unfolding looking withLooks slotIn
-slot-looks u k Absent = refl
-slot-looks u k (Present d) = refl
-
-slot-kept : (u : Ui) (hover : MaybeId) (is : List ℕ) (m : MaybeId) → slotIn (wornAll u hover is) m ≡ slotIn u m
-slot-kept u hover is m = ap (λ (v : Ui). slotIn v m) (worn-all u hover is) ∙ slot-looks u (wearAll u hover (looksOf u) is) m
-
-assoc : (a b c : List ℕ) → (a ++ b) ++ c ≡ a ++ (b ++ c)
+pub assoc : (a b c : List ℕ) → (a ++ b) ++ c ≡ a ++ (b ++ c)
 assoc [] b c = refl
 assoc (i ∷ a) b c = ap (λ (l : List ℕ). i ∷ l) (assoc a b c)
 
@@ -122,31 +112,149 @@ backs (a ∷ b ∷ []) n h = absurd (omega arith)
 backs (a ∷ b ∷ c ∷ []) n h = at-most-three n a b c
 backs (a ∷ b ∷ c ∷ d ∷ l) n h = absurd (omega arith)
 
-module _ (u : Ui) (hover : MaybeId) where
-  more-worn : (v w : Ui) (a b : List ℕ) → v ≡ wornAll u hover a → w ≡ wornAll v hover b → w ≡ wornAll u hover (a ++ b)
-  more-worn v w a b e f = f ∙ ap (λ (x : Ui). wornAll x hover b) e ∙ sym (worn-join u hover a b)
+-- ---- slots in turn
+pub turn-more : (l : List ℕ) (n i : ℕ) → n < length l → take (n + 1) (set l n i) ≡ take n l ++ (i ∷ [])
+turn-more l n i h = let e : n + 1 ≡ suc n = omega arith in ap (λ (m : ℕ). take m (set l n i)) e ∙ take-suc-set l n i h
 
-  live-worn : (v w : Ui) (a : List ℕ) (m : MaybeId) → v ≡ wornAll u hover a → w ≡ wornAll v hover (slotIn v m) → w ≡ wornAll u hover (a ++ slotIn u m)
-  live-worn v w a m e f =
-      more-worn v w a (slotIn u m) e
-      (f ∙ ap (λ (l : List ℕ). wornAll v hover l) (ap (λ (x : Ui). slotIn x m) e ∙ slot-kept u hover a m))
+pub no-more : (l : List ℕ) → l ≡ l ++ []
+no-more l = sym (append-nil l)
 
-  pub worn-again : (v x y z : Ui) (a : List ℕ) (p f : MaybeId) → v ≡ wornAll u hover a → x ≡ wornAll v hover (slotIn v hover)
-      → y ≡ wornAll x hover (slotIn x p) → z ≡ wornAll y hover (slotIn y f)
-      → z ≡ wornAll u hover (a ++ (slotIn u hover ++ slotIn u p ++ slotIn u f))
-  worn-again v x y z a p f e1 e2 e3 e4 =
-      let b = slotIn u hover in
-      let c = slotIn u p in
-      let d = slotIn u f in
-      live-worn y z ((a ++ b) ++ c) f (live-worn x y (a ++ b) p (live-worn v x a hover e1 e2) e3) e4
-      ∙ ap (λ (l : List ℕ). wornAll u hover l) (ap (λ (l : List ℕ). l ++ d) (assoc a b c) ∙ assoc a (b ++ c) d)
+pub live-slot : (u : Ui) (m : MaybeId) → liveSlot (limitOf u) (u .slots) m ≡ slotIn u m
+unfolding slotIn
+live-slot u Absent = refl
+live-slot u (Present d) = refl
 
-  -- the stated slots from the last
-  pub stated-worn : (x y z : Ui) (l : List ℕ) (n : ℕ) → length l ≡ 3 → x ≡ wornAll u hover (pick (ltb 2 n) (getD l 2 0 ∷ []) [])
-      → y ≡ wornAll x hover (pick (ltb 1 n) (getD l 1 0 ∷ []) []) → z ≡ wornAll y hover (pick (ltb 0 n) (getD l 0 0 ∷ []) [])
-      → z ≡ wornAll u hover (backwards (take n l))
-  stated-worn x y z l n h e1 e2 e3 =
-      let a = pick (ltb 2 n) (getD l 2 0 ∷ []) [] in
-      let b = pick (ltb 1 n) (getD l 1 0 ∷ []) [] in
-      let c = pick (ltb 0 n) (getD l 0 0 ∷ []) [] in
-      more-worn y z (a ++ b) c (more-worn x y a b e1 e2) e3 ∙ ap (λ (s : List ℕ). wornAll u hover s) (backs l n h)
+pub stated-back : (l : List ℕ) (n : ℕ) {a b c : List ℕ} → length l ≡ 3 → a ≡ [] ++ pick (ltb 2 n) (getD l 2 0 ∷ []) [] → b ≡ a ++ pick (ltb 1 n) (getD l 1 0 ∷ []) []
+    → c ≡ b ++ pick (ltb 0 n) (getD l 0 0 ∷ []) [] → c ≡ backwards (take n l)
+stated-back l n h a b c = rw (c, b, a) (backs l n h)
+
+-- four lists, each behind those before it
+pub four : {t a b c : List ℕ} {s x y z x′ y′ z′ : List ℕ} → t ≡ s → a ≡ t ++ x → b ≡ a ++ y → c ≡ b ++ z → x ≡ x′ → y ≡ y′ → z ≡ z′ → c ≡ s ++ (x′ ++ y′ ++ z′)
+four {s = s} {x′ = x} {y′ = y} {z′ = z} e a b c p q r = rw (c, b, a, e, p, q, r) (ap (λ (l : List ℕ). l ++ z) (assoc s x y) ∙ assoc s (x ++ y) z)
+
+-- what was worn by the first of a list, and by one more
+worn-behind : (u : Ui) (hover : MaybeId) (k : Looks) (l : List ℕ) (i : ℕ) → wearAll u hover k (l ++ (i ∷ [])) ≡ wear (poolOf u) (wearAll u hover k l) i (bitsAt u hover i)
+unfolding wearAll
+worn-behind u hover k [] i = refl
+worn-behind u hover k (x ∷ l) i = worn-behind u hover (wear (poolOf u) k x (bitsAt u hover x)) l i
+
+-- one slot of some looks, as the code stores it
+module _ (u : Ui) (k : Looks) (i b : ℕ) {n : ℕ} {x : StateSlot} where
+  same-looks : n ≡ entryOf (stateAt (k .states) i .table) b → x ≡ wearing (stateAt (k .states) i) n b → same n (stateAt (k .states) i .applied) ≡ true
+      → withLooks (looking u k) (k .layout) (set (k .states) i x) (k .dirty) ≡ looking u (wear (poolOf u) k i b)
+  unfolding looking withLooks wear
+  same-looks e f q = rw (← e, q, f)
+
+  other-looks : {y : LayoutSlot} {s : Style} {p q : Bool} → n ≡ entryOf (stateAt (k .states) i .table) b → x ≡ wearing (stateAt (k .states) i) n b
+      → same n (stateAt (k .states) i .applied) ≡ false → y ≡ withStyle (layoutAt (k .layout) i) s → s ≡ patchStyle (poolOf u) n (stateAt (k .states) i .base)
+      → p ≡ touches (poolOf u) (stateAt (k .states) i .applied) → q ≡ touches (poolOf u) n
+      → withLooks (looking u k) (set (k .layout) i y) (set (k .states) i x) (k .dirty || (p || q)) ≡ looking u (wear (poolOf u) k i b)
+  unfolding looking withLooks wear
+  other-looks e f d y s p q = rw (← e, d, f, y, s, p, q)
+
+past-looks : (u : Ui) (k : Looks) (i b : ℕ) {p q : Bool} → length (k .layout) ≤ i → length (k .states) ≤ i → p ≡ touches (poolOf u) 0 → q ≡ touches (poolOf u) noPatch
+    → withLooks (looking u k) (k .layout) (k .states) (k .dirty || (p || q)) ≡ looking u (wear (poolOf u) k i b)
+unfolding looking withLooks
+past-looks u k i b a c p q = rw (p, q) (sym (ap (looking u) (wear-past (poolOf u) k i b a c)))
+
+-- wearing keeps the arrays' lengths
+wear-lengths : (p : List StatePatch) (k : Looks) (i b : ℕ) → (length (wear p k i b .layout) ≡ length (k .layout)) × (length (wear p k i b .states) ≡ length (k .states))
+unfolding wear
+wear-lengths p k i b = go (same (entryOf (stateAt (k .states) i .table) b) (stateAt (k .states) i .applied))
+  where
+    s : StateSlot
+    s = stateAt (k .states) i
+
+    n : ℕ
+    n = entryOf (s .table) b
+
+    l : List LayoutSlot
+    l = set (k .layout) i (withStyle (layoutAt (k .layout) i) (patchStyle p n (s .base)))
+
+    t : List StateSlot
+    t = set (k .states) i (wearing s n b)
+
+    go : (q : Bool) → let r : Looks = pick q (record { layout = k .layout; states = t; dirty = k .dirty }) (record { layout = l; states = t; dirty = k .dirty || (touches p (s .applied) || touches p n) }) in
+        (length (r .layout) ≡ length (k .layout)) × (length (r .states) ≡ length (k .states))
+    go true = (refl, length-set (k .states) i (wearing s n b))
+    go false = (length-set (k .layout) i (withStyle (layoutAt (k .layout) i) (patchStyle p n (s .base))), length-set (k .states) i (wearing s n b))
+
+all-lengths : (u : Ui) (hover : MaybeId) (k : Looks) (l : List ℕ) → (length (wearAll u hover k l .layout) ≡ length (k .layout)) × (length (wearAll u hover k l .states) ≡ length (k .states))
+unfolding wearAll
+all-lengths u hover k [] = (refl, refl)
+all-lengths u hover k (i ∷ is) =
+    let a = all-lengths u hover (wear (poolOf u) k i (bitsAt u hover i)) is in
+    let b = wear-lengths (poolOf u) k i (bitsAt u hover i) in
+    (a .0 ∙ b .0, a .1 ∙ b .1)
+
+pub look-slots : (u : Ui) (k : Looks) (v : Ui) → v ≡ looking u k → v .slots ≡ u .slots
+unfolding looking withLooks
+look-slots u k v e = ap (λ (x : Ui). x .slots) e
+
+pub bits-there : (u v : Ui) (hover : MaybeId) (i : ℕ) → v .slots ≡ u .slots
+    → bitsOf (isId hover (idAt (v .slots) i)) (isId (u .interaction .pressed) (idAt (v .slots) i)) (isId (u .interaction .focus) (idAt (v .slots) i)) ≡ bitsAt u hover i
+unfolding bitsAt
+bits-there u v hover i e = rw e
+
+module _ (u : Ui) (hover : MaybeId) (l : List ℕ) where
+  -- the looks after the first j of the list
+  unfoldable pub lookAfter : ℕ → Looks
+  lookAfter j = wearAll u hover (looksOf u) (take j l)
+
+  pub look-first : u ≡ looking u (lookAfter 0)
+  unfolding lookAfter looking withLooks wearAll
+  look-first = refl
+
+  pub look-last : (v : Ui) (j : ℕ) → length l ≤ j → v ≡ looking u (lookAfter j) → v ≡ wornAll u hover l
+  unfolding lookAfter
+  look-last v j h e = e ∙ ap (λ (m : List ℕ). looking u (wearAll u hover (looksOf u) m)) (take-all j l h) ∙ sym (worn-all u hover l)
+
+  pub look-lengths : (j : ℕ) (v : Ui) → v ≡ looking u (lookAfter j) → (length (v .layout) ≡ length (u .layout)) × (length (v .states) ≡ length (u .states))
+  unfolding lookAfter looking withLooks
+  look-lengths j v e =
+      let a = all-lengths u hover (looksOf u) (take j l) in
+      (ap (λ (x : Ui). length (x .layout)) e ∙ a .0, ap (λ (x : Ui). length (x .states)) e ∙ a .1)
+
+  look-next : (j : ℕ) → j < length l → wear (poolOf u) (lookAfter j) (getD l j 0) (bitsAt u hover (getD l j 0)) ≡ lookAfter (j + 1)
+  unfolding lookAfter
+  look-next j h =
+      let e : j + 1 ≡ suc j = omega arith in
+      sym (ap (λ (m : ℕ). wearAll u hover (looksOf u) (take m l)) e ∙ ap (wearAll u hover (looksOf u)) (take-suc l j 0 h) ∙ worn-behind u hover (looksOf u) (take j l) (getD l j 0))
+
+  module _ (v : Ui) (j i b : ℕ) (e : v ≡ looking u (lookAfter j)) (h : j < length l) (ei : i ≡ getD l j 0) (eb : b ≡ bitsAt u hover i) where
+    next : (w : Ui) → w ≡ looking u (wear (poolOf u) (lookAfter j) i b) → w ≡ looking u (lookAfter (j + 1))
+    next w q = q ∙ ap (looking u) (ap (wear (poolOf u) (lookAfter j) i) eb ∙ ap (λ (x : ℕ). wear (poolOf u) (lookAfter j) x (bitsAt u hover x)) ei ∙ look-next j h)
+
+    -- the same patch is worn again
+    pub look-same : {n : ℕ} {x : StateSlot} → n ≡ entryOf (stateAt (v .states) i .table) b → x ≡ wearing (stateAt (v .states) i) n b → same n (stateAt (v .states) i .applied) ≡ true
+        → withLooks v (v .layout) (set (v .states) i x) (v .dirty) ≡ looking u (lookAfter (j + 1))
+    unfolding looking withLooks
+    look-same {n = m} {x = w} n x q =
+        next (withLooks v (v .layout) (set (v .states) i w) (v .dirty))
+        (subst
+        (λ (t : Ui). m ≡ entryOf (stateAt (t .states) i .table) b → w ≡ wearing (stateAt (t .states) i) m b → same m (stateAt (t .states) i .applied) ≡ true → withLooks t (t .layout) (set (t .states) i w) (t .dirty) ≡ looking u (wear (poolOf u) (lookAfter j) i b))
+        (sym e) (same-looks u (lookAfter j) i b) n x q)
+
+    -- another is worn
+    pub look-other : {n : ℕ} {x : StateSlot} {y : LayoutSlot} {s : Style} {p q : Bool} → n ≡ entryOf (stateAt (v .states) i .table) b → x ≡ wearing (stateAt (v .states) i) n b
+        → same n (stateAt (v .states) i .applied) ≡ false → y ≡ withStyle (layoutAt (v .layout) i) s → s ≡ patchStyle (poolOf u) n (stateAt (v .states) i .base)
+        → p ≡ touches (poolOf u) (stateAt (v .states) i .applied) → q ≡ touches (poolOf u) n
+        → withLooks v (set (v .layout) i y) (set (v .states) i x) (v .dirty || (p || q)) ≡ looking u (lookAfter (j + 1))
+    unfolding looking withLooks
+    look-other {n = m} {x = w} {y = z} {s = st} {p = p′} {q = q′} n x d y s p q =
+        next (withLooks v (set (v .layout) i z) (set (v .states) i w) (v .dirty || (p′ || q′)))
+        (subst
+        (λ (t : Ui). m ≡ entryOf (stateAt (t .states) i .table) b → w ≡ wearing (stateAt (t .states) i) m b → same m (stateAt (t .states) i .applied) ≡ false
+        → z ≡ withStyle (layoutAt (t .layout) i) st → st ≡ patchStyle (poolOf u) m (stateAt (t .states) i .base) → p′ ≡ touches (poolOf u) (stateAt (t .states) i .applied)
+        → withLooks t (set (t .layout) i z) (set (t .states) i w) (t .dirty || (p′ || q′)) ≡ looking u (wear (poolOf u) (lookAfter j) i b))
+        (sym e) (λ n x d y s p. other-looks u (lookAfter j) i b n x d y s p q) n x d y s p)
+
+    -- past the slots
+    pub look-past : {p q : Bool} → length (v .layout) ≤ i → length (v .states) ≤ i → p ≡ touches (poolOf u) 0 → q ≡ touches (poolOf u) noPatch
+        → withLooks v (v .layout) (v .states) (v .dirty || (p || q)) ≡ looking u (lookAfter (j + 1))
+    unfolding looking withLooks
+    look-past {p = p′} {q = q′} a c p q =
+        next (withLooks v (v .layout) (v .states) (v .dirty || (p′ || q′)))
+        (subst
+        (λ (t : Ui). length (t .layout) ≤ i → length (t .states) ≤ i → withLooks t (t .layout) (t .states) (t .dirty || (p′ || q′)) ≡ looking u (wear (poolOf u) (lookAfter j) i b))
+        (sym e) (λ a c. past-looks u (lookAfter j) i b a c p q) a c)

@@ -3,6 +3,7 @@ ghost use mathlib.Core.Path.{_≡_};
 ghost use Rattle.tree.specs.Slots as links;
 ghost use Rattle.tree.specs.Layout as laid;
 ghost use Rattle.tree.specs.Hit as hits;
+ghost use Rattle.tree.specs.Tests.{pick};
 use crate::LayoutSlot;
 use crate::Pointer;
 use crate::Slot;
@@ -19,27 +20,14 @@ fn contains(l: LayoutSlot, pixel: Pointer) -> bool
     layout::holds(pixel.x, pixel.y, rect)
 }
 
-// The last of a chain whose box holds the pixel, or d.
-fn topmost(slots: [Slot; 128], layout: [LayoutSlot; 128], pixel: Pointer, first: u32, d: u32) -> u32
-    ensures { λ r. ⌜ r ≡ hits.lastOf (hits.holdsAt layout pixel) d (links.chain 128 slots first) ⌝ }
+// The slot, where its box holds the pixel, or d.
+fn held(l: LayoutSlot, pixel: Pointer, i: u32, d: u32) -> u32
+    ensures { λ r. ⌜ r ≡ pick (laid.holds (pixel .x) (pixel .y) (l .rect)) i d ⌝ }
 {
-    let mut found = d;
-    let mut child = first;
-    let mut left: u32 = 128;
-    while child < 128 {
-        if left == 0 {
-            return found;
-        }
-        let k = child as usize;
-        let l = layout[k];
-        if contains(l, pixel) {
-            found = child;
-        }
-        let s = slots[k];
-        child = s.next_sibling;
-        left = left - 1;
+    if contains(l, pixel) {
+        return i;
     }
-    found
+    d
 }
 
 // A slot's first child; past the array 0, as a read there gives.
@@ -54,20 +42,38 @@ pub fn first_child(slots: [Slot; 128], i: u32) -> u32
     s.first_child
 }
 
-// From slot i down, at most 128 times; where no child holds the pixel the walk stays, and stops.
-fn descend(slots: [Slot; 128], layout: [LayoutSlot; 128], pixel: Pointer, i: u32) -> u32
-    ensures { λ r. ⌜ r ≡ hits.descend (hits.holdsAt layout pixel) 128 slots i ⌝ }
+// From the root down, at most 128 times: to the last child whose box holds the pixel, until none does. `found` is the last so far of the
+// children of `at`, or `at` itself.
+fn descend(slots: [Slot; 128], layout: [LayoutSlot; 128], pixel: Pointer) -> u32
+    ensures { λ r. ⌜ r ≡ hits.descend (hits.holdsAt layout pixel) 128 slots 0 ⌝ }
 {
-    let mut at = i;
+    let mut at: u32 = 0;
+    let mut found: u32 = 0;
+    let mut s = slots[0];
+    let mut child = s.first_child;
     let mut left: u32 = 128;
-    while left > 0 {
-        let first = first_child(slots, at);
-        let next = topmost(slots, layout, pixel, first, at);
-        if next == at {
+    let mut down: u32 = 128;
+    while 0 < down {
+        if child < 128 {
+            if 0 < left {
+                let k = child as usize;
+                let l = layout[k];
+                found = held(l, pixel, child, found);
+                s = slots[k];
+                child = s.next_sibling;
+                left -= 1;
+                continue;
+            }
+        }
+        if found == at {
             return at;
         }
-        at = next;
-        left = left - 1;
+        at = found;
+        let k = (at % 128) as usize;
+        s = slots[k];
+        child = s.first_child;
+        left = 128;
+        down -= 1;
     }
     at
 }
@@ -80,7 +86,7 @@ pub fn hit_test(ui: Ui, pixel: Pointer) -> MaybeId
     let layout = ui.layout;
     let root = layout[0];
     if contains(root, pixel) {
-        let at = descend(slots, layout, pixel, 0);
+        let at = descend(slots, layout, pixel);
         let id = id_at(slots, at);
         return MaybeId::Present(id);
     }

@@ -8,9 +8,9 @@ ghost use Rattle.tree.specs.States.{isId, bitsOf, wearing, withStyle, lo
 ghost use Rattle.tree.specs.Styles.{bareState};
 ghost use Rattle.tree.specs.Tests.{pick, same, occ, fromTo};
 ghost use Rattle.tree.specs.Calls.{pooled};
-ghost use Rattle.tree.specs.Wearing.{looking, wornAll, keptMore, keptLive};
+ghost use Rattle.tree.specs.Wearing.{looking, wornAll, keptMore, keptLive, keptAs, inTurn, liveSlot};
 ghost use Rattle.tree.specs.States as states;
-ghost use Rattle.tree.specs.Trees.{poolOf, statedOf, withStated};
+ghost use Rattle.tree.specs.Trees.{poolOf, statedOf};
 use crate::LayoutSlot;
 use crate::Slot;
 use crate::StatePatch;
@@ -29,7 +29,21 @@ pub(crate) struct Kept {
     pub count: u32,
 }
 
-// The bits of slot i, with `hover` the node under the pointer.
+// The bits of slot i, which is s, with `hover` the node under the pointer.
+fn bits_in(s: Slot, i: u32, hover: MaybeId, pressed: MaybeId, focus: MaybeId) -> u8
+    ensures { λ r. ⌜ r ≡ bitsOf (isId hover (record { index = i; generation = s .generation })) (isId pressed (record { index = i; generation = s .generation })) (isId focus (record { index = i; generation = s .generation })) ⌝ }
+{
+    let d = NodeId {
+        index: i,
+        generation: s.generation,
+    };
+    let hovered = state::is_id(hover, d);
+    let held = state::is_id(pressed, d);
+    let focused = state::is_id(focus, d);
+    state::bits_of(hovered, held, focused)
+}
+
+// The bits of slot i.
 pub(crate) fn bits_at(
     slots: [Slot; 128],
     i: u32,
@@ -40,14 +54,7 @@ pub(crate) fn bits_at(
     ensures { λ r. ⌜ r ≡ bitsOf (isId hover (idAt slots i)) (isId pressed (idAt slots i)) (isId focus (idAt slots i)) ⌝ }
 {
     let s = links::slot_at(slots, i);
-    let d = NodeId {
-        index: i,
-        generation: s.generation,
-    };
-    let hovered = state::is_id(hover, d);
-    let held = state::is_id(pressed, d);
-    let focused = state::is_id(focus, d);
-    state::bits_of(hovered, held, focused)
+    bits_in(s, i, hover, pressed, focus)
 }
 
 // The state slot that wears a patch for the bits.
@@ -218,58 +225,116 @@ pub(crate) fn pool(u: Ui, patches: [StatePatch; 64], count: u32) -> Ui
     out
 }
 
-// Slot i wears its bits, where it is asked to.
-fn wear_bits(u: Ui, hover: MaybeId, asked: bool, i: u32) -> Ui
-    ensures { λ r. ⌜ r ≡ wornAll u hover (pick asked (i ∷ []) []) ⌝ }
+// Slots in turn: the first `count` items.
+pub(crate) struct Turns {
+    pub items: [u32; 6],
+    pub count: u32,
+}
+
+// One slot more, where it is asked for.
+fn turn(t: Turns, asked: bool, i: u32) -> Turns
+    requires { ⌜ t .count ≤ 5 ⌝ }
+    ensures { λ r. ⌜ (r .count ≤ t .count + 1) × (inTurn r ≡ inTurn t ++ pick asked (i ∷ []) []) ⌝ }
 {
     if asked {
-        let slots = u.slots;
-        let interaction = u.interaction;
-        let pressed = interaction.pressed;
-        let focus = interaction.focus;
-        let bits = bits_at(slots, i, hover, pressed, focus);
-        return wear(u, i, bits);
+        let mut items = t.items;
+        let at = t.count as usize;
+        items[at] = i;
+        return Turns {
+            items: items,
+            count: t.count + 1,
+        };
     }
-    u
+    t
 }
 
-// Every stated slot does, from the last.
-fn wear_stated(mut u: Ui, hover: MaybeId) -> Ui
-    ensures { λ r. ⌜ r ≡ wornAll u hover (backwards (statedOf u)) ⌝ }
-{
-    let stated = u.stated;
-    let count = u.stated_count;
-    u = wear_bits(u, hover, 2 < count, stated[2]);
-    u = wear_bits(u, hover, 1 < count, stated[1]);
-    wear_bits(u, hover, 0 < count, stated[0])
-}
-
-// The slot of an id that is live does.
-fn wear_live(u: Ui, hover: MaybeId, id: MaybeId) -> Ui
-    ensures { λ r. ⌜ r ≡ wornAll u hover (slotIn u id) ⌝ }
+// The slot of an id that is live.
+fn turn_live(t: Turns, limit: u32, slots: [Slot; 128], id: MaybeId) -> Turns
+    requires { ⌜ t .count ≤ 5 ⌝ }
+    ensures { λ r. ⌜ (r .count ≤ t .count + 1) × (inTurn r ≡ inTurn t ++ liveSlot limit slots id) ⌝ }
 {
     match id {
-        MaybeId::Absent => u,
+        MaybeId::Absent => t,
         MaybeId::Present(d) => {
-            let slots = u.slots;
-            let limits = u.limits;
-            let live = links::is_live(limits.nodes, slots, d);
-            wear_bits(u, hover, live, d.index)
+            let live = links::is_live(limit, slots, d);
+            turn(t, live, d.index)
         }
     }
 }
 
-// The stated slots, then the nodes hovered, pressed and in focus wear their bits.
-fn wear_again(mut u: Ui, hover: MaybeId) -> Ui
-    ensures { λ r. ⌜ r ≡ wornAll u hover (backwards (statedOf u) ++ (slotIn u hover ++ slotIn u (u .interaction .pressed) ++ slotIn u (u .interaction .focus))) ⌝ }
+// The stated slots from the last.
+fn stated_turns(stated: [u32; 3], count: u32) -> Turns
+    ensures { λ r. ⌜ (r .count ≤ 3) × (inTurn r ≡ backwards (take count stated)) ⌝ }
+{
+    let none = Turns {
+        items: [0u32; 6],
+        count: 0,
+    };
+    let one = turn(none, 2 < count, stated[2]);
+    let two = turn(one, 1 < count, stated[1]);
+    turn(two, 0 < count, stated[0])
+}
+
+// The stated slots from the last, then the nodes hovered, pressed and in focus.
+fn in_turn(u: Ui, hover: MaybeId) -> Turns
+    ensures { λ r. ⌜ (r .count ≤ 6) × (inTurn r ≡ backwards (statedOf u) ++ (slotIn u hover ++ slotIn u (u .interaction .pressed) ++ slotIn u (u .interaction .focus))) ⌝ }
+{
+    let limits = u.limits;
+    let n = limits.nodes;
+    let slots = u.slots;
+    let stated = u.stated;
+    let interaction = u.interaction;
+    let pressed = interaction.pressed;
+    let focus = interaction.focus;
+    let t = stated_turns(stated, u.stated_count);
+    let hovered = turn_live(t, n, slots, hover);
+    let held = turn_live(hovered, n, slots, pressed);
+    turn_live(held, n, slots, focus)
+}
+
+// The slots in turn wear their bits. Past the slots nothing is stored: what is read there wears patch 0.
+fn wear_turns(u: Ui, hover: MaybeId, t: Turns) -> Ui
+    requires { ⌜ t .count ≤ 6 ⌝ }
+    ensures { λ r. ⌜ r ≡ wornAll u hover (inTurn t) ⌝ }
 {
     let interaction = u.interaction;
     let pressed = interaction.pressed;
     let focus = interaction.focus;
-    u = wear_stated(u, hover);
-    u = wear_live(u, hover, hover);
-    u = wear_live(u, hover, pressed);
-    wear_live(u, hover, focus)
+    let count = u.patch_count;
+    let n = t.count as usize;
+    let items = t.items;
+    let mut out = u;
+    let mut j: usize = 0;
+    while j < n {
+        let i = items[j];
+        j += 1;
+        if 128 <= i {
+            let patches = u.patches;
+            let first = state::touches(patches, count, 0);
+            let none = state::touches(patches, count, NO_PATCH);
+            out.dirty = out.dirty | (first | none);
+            continue;
+        }
+        let k = i as usize;
+        let slot = out.slots[k];
+        let bits = bits_in(slot, i, hover, pressed, focus);
+        let s = out.states[k];
+        let table = s.table;
+        let next = state::entry_of(table, bits);
+        out.states[k] = worn(s, next, bits);
+        if next == s.applied {
+            continue;
+        }
+        let base = s.base;
+        let patches = u.patches;
+        let l = out.layout[k];
+        let style = state::patch_style(patches, count, next, base);
+        let before = state::touches(patches, count, s.applied);
+        let after = state::touches(patches, count, next);
+        out.layout[k] = styled(l, style);
+        out.dirty = out.dirty | (before | after);
+    }
+    out
 }
 
 // Whether slot i is not kept.
@@ -330,9 +395,9 @@ fn keep_live(u: Ui, hover: MaybeId, k: Kept, id: MaybeId) -> Kept
     }
 }
 
-// Those of the nodes hovered, pressed and in focus that have bits are stated.
-fn restate(u: Ui, hover: MaybeId) -> Ui
-    ensures { λ r. ⌜ r ≡ withStated u (bearing u hover [] (slotIn u hover ++ slotIn u (u .interaction .pressed) ++ slotIn u (u .interaction .focus))) ⌝ }
+// Those of the nodes hovered, pressed and in focus that have bits are to be stated.
+fn restated(u: Ui, hover: MaybeId) -> Kept
+    ensures { λ r. ⌜ r ≡ keptAs (bearing u hover [] (slotIn u hover ++ slotIn u (u .interaction .pressed) ++ slotIn u (u .interaction .focus))) (u .stated) ⌝ }
 {
     let interaction = u.interaction;
     let pressed = interaction.pressed;
@@ -344,18 +409,18 @@ fn restate(u: Ui, hover: MaybeId) -> Ui
     };
     let one = keep_live(u, hover, none, hover);
     let two = keep_live(u, hover, one, pressed);
-    let three = keep_live(u, hover, two, focus);
-    let items = three.items;
-    let mut out = u;
-    out.stated = items;
-    out.stated_count = three.count;
-    out
+    keep_live(u, hover, two, focus)
 }
 
 // Every stated slot, then the nodes hovered, pressed and in focus wear their bits; those of the three with bits are stated.
-pub fn refresh_states(mut u: Ui, hover: MaybeId) -> Ui
+pub fn refresh_states(u: Ui, hover: MaybeId) -> Ui
     ensures { λ r. ⌜ r ≡ refreshed u hover ⌝ }
 {
-    u = wear_again(u, hover);
-    restate(u, hover)
+    let kept = restated(u, hover);
+    let t = in_turn(u, hover);
+    let mut out = wear_turns(u, hover, t);
+    let items = kept.items;
+    out.stated = items;
+    out.stated_count = kept.count;
+    out
 }
