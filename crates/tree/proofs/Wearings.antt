@@ -191,6 +191,14 @@ pub look-slots : (u : Ui) (k : Looks) (v : Ui) → v ≡ looking u k → v .slot
 unfolding looking withLooks
 look-slots u k v e = ap (λ (x : Ui). x .slots) e
 
+pub look-pools : (u : Ui) (k : Looks) (v : Ui) → v ≡ looking u k → (n : ℕ) → touches (take (u .«patch_count») (v .patches)) n ≡ touches (poolOf u) n
+unfolding looking withLooks
+look-pools u k v e n = ap (λ (x : Ui). touches (take (u .«patch_count») (x .patches)) n) e
+
+pub look-style : (u : Ui) (k : Looks) (v : Ui) → v ≡ looking u k → (n : ℕ) (s : Style) → patchStyle (take (u .«patch_count») (v .patches)) n s ≡ patchStyle (poolOf u) n s
+unfolding looking withLooks
+look-style u k v e n s = ap (λ (x : Ui). patchStyle (take (u .«patch_count») (x .patches)) n s) e
+
 pub bits-there : (u v : Ui) (hover : MaybeId) (i : ℕ) → v .slots ≡ u .slots
     → bitsOf (isId hover (idAt (v .slots) i)) (isId (u .interaction .pressed) (idAt (v .slots) i)) (isId (u .interaction .focus) (idAt (v .slots) i)) ≡ bitsAt u hover i
 unfolding bitsAt

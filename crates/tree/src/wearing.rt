@@ -7,7 +7,8 @@ ghost use Rattle.tree.specs.Slots.{idAt};
 ghost use Rattle.tree.specs.States.{isId, bitsOf, wearing, withStyle, looksOf, styledAt, tabledAt, bared, bareAll, backwards, slotIn, bearing, refreshed};
 ghost use Rattle.tree.specs.Styles.{bareState};
 ghost use Rattle.tree.specs.Tests.{pick, same, occ, fromTo};
-ghost use Rattle.tree.specs.Calls.{pooled};
+ghost use Rattle.tree.specs.Answers.{changedOf};
+ghost use Rattle.tree.specs.Calls.{gives, pooled};
 ghost use Rattle.tree.specs.Wearing.{looking, wornAll, keptMore, keptLive, keptAs, inTurn, liveSlot};
 ghost use Rattle.tree.specs.States as states;
 ghost use Rattle.tree.specs.Trees.{poolOf, statedOf};
@@ -17,11 +18,13 @@ use crate::StatePatch;
 use crate::StateSlot;
 use crate::Style;
 use crate::Ui;
+use crate::answers::Changed;
 use crate::links;
 use crate::state;
 use crate::state::NO_PATCH;
 use field::MaybeId;
 use field::NodeId;
+use text::refusal::Verdict;
 
 // Slots kept: the first `count` items.
 pub(crate) struct Kept {
@@ -292,51 +295,6 @@ fn in_turn(u: Ui, hover: MaybeId) -> Turns
     turn_live(held, n, slots, focus)
 }
 
-// The slots in turn wear their bits. Past the slots nothing is stored: what is read there wears patch 0.
-fn wear_turns(u: Ui, hover: MaybeId, t: Turns) -> Ui
-    requires { ⌜ t .count ≤ 6 ⌝ }
-    ensures { λ r. ⌜ r ≡ wornAll u hover (inTurn t) ⌝ }
-{
-    let interaction = u.interaction;
-    let pressed = interaction.pressed;
-    let focus = interaction.focus;
-    let count = u.patch_count;
-    let n = t.count as usize;
-    let items = t.items;
-    let mut out = u;
-    let mut j: usize = 0;
-    while j < n {
-        let i = items[j];
-        j += 1;
-        if 128 <= i {
-            let patches = u.patches;
-            let first = state::touches(patches, count, 0);
-            let none = state::touches(patches, count, NO_PATCH);
-            out.dirty = out.dirty | (first | none);
-            continue;
-        }
-        let k = i as usize;
-        let slot = out.slots[k];
-        let bits = bits_in(slot, i, hover, pressed, focus);
-        let s = out.states[k];
-        let table = s.table;
-        let next = state::entry_of(table, bits);
-        out.states[k] = worn(s, next, bits);
-        if next == s.applied {
-            continue;
-        }
-        let base = s.base;
-        let patches = u.patches;
-        let l = out.layout[k];
-        let style = state::patch_style(patches, count, next, base);
-        let before = state::touches(patches, count, s.applied);
-        let after = state::touches(patches, count, next);
-        out.layout[k] = styled(l, style);
-        out.dirty = out.dirty | (before | after);
-    }
-    out
-}
-
 // Whether slot i is not kept.
 fn is_new(k: Kept, i: u32) -> bool
     requires { ⌜ k .count ≤ 2 ⌝ }
@@ -412,15 +370,54 @@ fn restated(u: Ui, hover: MaybeId) -> Kept
     keep_live(u, hover, two, focus)
 }
 
-// Every stated slot, then the nodes hovered, pressed and in focus wear their bits; those of the three with bits are stated.
-pub fn refresh_states(u: Ui, hover: MaybeId) -> Ui
-    ensures { λ r. ⌜ r ≡ refreshed u hover ⌝ }
+// Every stated slot, then the nodes hovered, pressed and in focus wear their bits; those of the three with bits are stated. Past the
+// slots nothing is stored: what is read there wears patch 0. One function, since each that takes and gives a tree copies it.
+pub fn refresh_states(mut u: Ui, hover: MaybeId) -> Changed
+    ensures { λ r. ⌜ changedOf r ≡ gives (refreshed u hover) 0 ⌝ }
 {
     let kept = restated(u, hover);
     let t = in_turn(u, hover);
-    let mut out = wear_turns(u, hover, t);
-    let items = kept.items;
-    out.stated = items;
-    out.stated_count = kept.count;
-    out
+    let interaction = u.interaction;
+    let pressed = interaction.pressed;
+    let focus = interaction.focus;
+    let count = u.patch_count;
+    let n = t.count as usize;
+    let items = t.items;
+    let mut j: usize = 0;
+    while j < n {
+        let i = items[j];
+        j += 1;
+        if 128 <= i {
+            let patches = u.patches;
+            let first = state::touches(patches, count, 0);
+            let none = state::touches(patches, count, NO_PATCH);
+            u.dirty = u.dirty | (first | none);
+            continue;
+        }
+        let k = i as usize;
+        let slot = u.slots[k];
+        let bits = bits_in(slot, i, hover, pressed, focus);
+        let s = u.states[k];
+        let table = s.table;
+        let next = state::entry_of(table, bits);
+        u.states[k] = worn(s, next, bits);
+        if next == s.applied {
+            continue;
+        }
+        let base = s.base;
+        let patches = u.patches;
+        let l = u.layout[k];
+        let style = state::patch_style(patches, count, next, base);
+        let before = state::touches(patches, count, s.applied);
+        let after = state::touches(patches, count, next);
+        u.layout[k] = styled(l, style);
+        u.dirty = u.dirty | (before | after);
+    }
+    let kept_items = kept.items;
+    u.stated = kept_items;
+    u.stated_count = kept.count;
+    Changed {
+        verdict: Verdict::Accepted,
+        tree: u,
+    }
 }
