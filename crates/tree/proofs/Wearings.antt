@@ -33,7 +33,7 @@ wear-past p k i b h g =
       set-out (k .layout) i (withStyle (layoutAt (k .layout) i) (patchStyle p noPatch noStyle)) h,
     ) refl
 
-pub bared-past : (k : Looks) (i : ℕ) → length (k .layout) ≤ i → length (k .states) ≤ i
+bared-past : (k : Looks) (i : ℕ) → length (k .layout) ≤ i → length (k .states) ≤ i
     → bared k i ≡ record { layout = k .layout; states = k .states; dirty = true }
 unfolding bared stateAt same
 bared-past k i h g =
@@ -42,6 +42,22 @@ bared-past k i h g =
       set-out (k .states) i (bareState noStyle) g,
       set-out (k .layout) i (withStyle (layoutAt (k .layout) i) noStyle) h,
     ) refl
+
+-- one slot made bare, as the code stores it
+module _ (v : Ui) (i : ℕ) where
+  pub bared-outside : length (v .layout) ≤ i → length (v .states) ≤ i → withLooks v (v .layout) (v .states) true ≡ looking v (bared (looksOf v) i)
+  unfolding looking
+  bared-outside h g = rw (bared-past (looksOf v) i h g)
+
+  pub bared-as-it-is : {x : StateSlot} → x ≡ bareState (stateAt (v .states) i .base) → same (stateAt (v .states) i .applied) noPatch ≡ true
+      → withLooks v (v .layout) (set (v .states) i x) (v .dirty) ≡ looking v (bared (looksOf v) i)
+  unfolding looking bared
+  bared-as-it-is e q = rw (q, e)
+
+  pub bared-anew : {x : StateSlot} {y : LayoutSlot} → x ≡ bareState (stateAt (v .states) i .base) → same (stateAt (v .states) i .applied) noPatch ≡ false
+      → y ≡ withStyle (layoutAt (v .layout) i) (stateAt (v .states) i .base) → withLooks v (set (v .layout) i y) (set (v .states) i x) true ≡ looking v (bared (looksOf v) i)
+  unfolding looking bared
+  bared-anew e q f = rw (q, e, f)
 
 pub styled-past : (u : Ui) (i : ℕ) (s : Style) → length (u .layout) ≤ i → length (u .states) ≤ i
     → styledAt u i s ≡ withLooks u (u .layout) (u .states) true

@@ -179,39 +179,29 @@ pub(crate) fn table_at(u: Ui, i: u32, table: [u16; 16]) -> Ui
     wear(out, i, s.bits)
 }
 
-// Slot i loses table, bits and patch. Past the slots nothing is stored, and a patch counts as worn.
-fn bare_at(u: Ui, i: u32) -> Ui
-    ensures { λ r. ⌜ r ≡ looking u (bared (looksOf u) i) ⌝ }
-{
-    let mut out = u;
-    if 128 <= i {
-        out.dirty = true;
-        return out;
-    }
-    let k = i as usize;
-    let all = u.states;
-    let s = all[k];
-    let base = s.base;
-    out.states[k] = bare(base);
-    if s.applied == NO_PATCH {
-        return out;
-    }
-    let layout = u.layout;
-    let l = layout[k];
-    out.layout[k] = styled(l, base);
-    out.dirty = true;
-    out
-}
-
-// Every slot below the limit does.
+// Every slot below the limit loses table, bits and patch. Past the slots nothing is stored, and a patch counts as worn.
 fn bare_all(u: Ui, limit: u32) -> Ui
     ensures { λ r. ⌜ r ≡ looking u (bareAll (looksOf u) (fromTo 0 limit)) ⌝ }
 {
     let mut out = u;
     let mut i: u32 = 0;
     while i < limit {
-        out = bare_at(out, i);
+        let at = i;
         i += 1;
+        if 128 <= at {
+            out.dirty = true;
+            continue;
+        }
+        let k = at as usize;
+        let s = out.states[k];
+        let base = s.base;
+        out.states[k] = bare(base);
+        if s.applied == NO_PATCH {
+            continue;
+        }
+        let l = out.layout[k];
+        out.layout[k] = styled(l, base);
+        out.dirty = true;
     }
     out
 }
