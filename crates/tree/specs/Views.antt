@@ -4,8 +4,8 @@ use Prim.Native.Nat.{ℕ, zero, suc, _+_, _<_, _≤_}
 use mathlib.Core.List.{List, _++_}
 use mathlib.Core.Path.{_≡_}
 use lib.IntN.{ℤ, pos}
-use lib.ListN.{getD, replicate, take}
-use Rattle.tree.specs.Layout.{Axes, Extent, Child, axes, outer, offset, boxed}
+use lib.ListN.{length, getD, replicate, take}
+use Rattle.tree.specs.Layout.{Axes, Extent, Child, axes, outer, summed, offset, boxed}
 use Rattle.tree.specs.declared.Direction.{Direction}
 use Rattle.tree.specs.declared.Direction.the-variants.{Row, Column}
 use Rattle.tree.specs.declared.Style.{Style}
@@ -32,6 +32,10 @@ noAxes = record { main = pos 0; cross = pos 0 }
 -- A sum of children, and one child more.
 unfoldable pub joined : Direction → Axes → Child → Axes
 joined d a c = let o = outer d c in record { main = addSat (a .main) (o .main); cross = maxOf (a .cross) (o .cross) }
+
+-- Lengths summed over so many children, those of the list.
+abbrev pub SumOf : Style → Lengths → ℕ → List Child → Type 0
+SumOf s sum n cs = (axesOf sum ≡ summed (s .direction) noAxes cs) × (n ≡ length cs)
 
 -- A child's wanted size, grown along the main axis.
 abbrev pub grownOf : Direction → Child → ℤ → Extent

@@ -1,7 +1,7 @@
 // Layout: what a node wants to be, and where it places its children.
 ghost use mathlib.Core.Path.{_≡_};
 ghost use mathlib.Core.Bool.{_&&_};
-ghost use mathlib.Core.List.{map, [], _∷_};
+ghost use mathlib.Core.List.{List, map, [], _∷_};
 ghost use lib.IntN.{pos};
 ghost use Prim.Native.Nat.{min, _≤_};
 ghost use lib.ListN.{length, getD, take};
@@ -13,7 +13,7 @@ ghost use lib.Dec.{ltb};
 ghost use Rattle.tree.specs.Tests.{pick};
 ghost use Rattle.tree.specs.Slots.{chain, order};
 ghost use Rattle.tree.specs.Layout as laid;
-ghost use Rattle.tree.specs.Views.{childOf, axesOf, extentOf, noAxes, joined, grownOf, boxAt, pastOf, growOf, noGrows, addedFrom, innerOf, Slotted, listed, Pushed};
+ghost use Rattle.tree.specs.Views.{childOf, axesOf, extentOf, noAxes, joined, grownOf, boxAt, pastOf, growOf, noGrows, addedFrom, innerOf, Slotted, listed, Pushed, SumOf};
 use crate::Align;
 use crate::Direction;
 use crate::Edges;
@@ -122,57 +122,10 @@ fn with_child(a: Lengths, d: Direction, child: LayoutSlot) -> Lengths
     }
 }
 
-// How many children a chain has, from its first on.
-fn child_count(slots: [Slot; 128], first: u32) -> u32
-    ensures { λ r. ⌜ r ≡ length (chain 128 slots first) ⌝ }
+// What children take along the main axis, with a gap between each two, and the largest across: from their summed lengths and their number.
+fn content_extent(style: Style, sum: Lengths, count: u32) -> Lengths
+    ensures { λ r. ⌜ ((cs : List laid.Child) → SumOf style sum count cs → axesOf r ≡ laid.content style cs) ⌝ }
 {
-    let mut child = first;
-    let mut left: u32 = 128;
-    while child < 128 {
-        if left == 0 {
-            return 128;
-        }
-        let k = child as usize;
-        let s = slots[k];
-        child = s.next_sibling;
-        left = left - 1;
-    }
-    128 - left
-}
-
-// The children of a chain: their main lengths summed, and the largest across.
-fn sum_children(slots: [Slot; 128], layout: [LayoutSlot; 128], d: Direction, first: u32) -> Lengths
-    ensures { λ r. ⌜ axesOf r ≡ laid.summed d noAxes (map (laid.seen layout) (chain 128 slots first)) ⌝ }
-{
-    let mut sum = Lengths { main: 0, cross: 0 };
-    let mut child = first;
-    let mut left: u32 = 128;
-    while child < 128 {
-        if left == 0 {
-            return sum;
-        }
-        let k = child as usize;
-        let l = layout[k];
-        sum = with_child(sum, d, l);
-        let s = slots[k];
-        child = s.next_sibling;
-        left = left - 1;
-    }
-    sum
-}
-
-// The children's extent: outer lengths with a gap between each two, and the largest across.
-pub fn content_extent(
-    slots: [Slot; 128],
-    layout: [LayoutSlot; 128],
-    style: Style,
-    first: u32,
-) -> Lengths
-    ensures { λ r. ⌜ axesOf r ≡ laid.content style (map (laid.seen layout) (chain 128 slots first)) ⌝ }
-{
-    let d = style.direction;
-    let sum = sum_children(slots, layout, d, first);
-    let count = child_count(slots, first);
     if count < 2 {
         return sum;
     }
@@ -213,15 +166,15 @@ fn wanted(size: Size, content: i64, before: i64, behind: i64) -> i64
     sized(size, needed)
 }
 
-// What a node of this style wants to be, from its children.
-pub fn want(slots: [Slot; 128], layout: [LayoutSlot; 128], style: Style, first: u32) -> Extent
-    ensures { λ r. ⌜ extentOf r ≡ laid.want style (map (laid.seen layout) (chain 128 slots first)) ⌝ }
+// What a node of this style wants to be, from its children's summed lengths and their number.
+fn want(style: Style, sum: Lengths, count: u32) -> Extent
+    ensures { λ r. ⌜ ((cs : List laid.Child) → SumOf style sum count cs → extentOf r ≡ laid.want style cs) ⌝ }
 {
     let d = style.direction;
     let p = style.padding;
     let width = style.width;
     let height = style.height;
-    let c = content_extent(slots, layout, style, first);
+    let c = content_extent(style, sum, count);
     let e = turned(d, c);
     Extent {
         width: wanted(width, e.width, p.left, p.right),
@@ -245,23 +198,6 @@ fn with_rect(l: LayoutSlot, rect: Rect) -> LayoutSlot
 {
     let mut out = l;
     out.rect = rect;
-    out
-}
-
-// Slot i stores what it wants to be.
-pub fn measure(slots: [Slot; 128], layout: [LayoutSlot; 128], i: u32) -> [LayoutSlot; 128]
-    ensures { λ r. ⌜ r ≡ laid.measureAt slots layout i ⌝ }
-{
-    let mut out = layout;
-    if i >= 128 {
-        return out;
-    }
-    let k = i as usize;
-    let s = slots[k];
-    let l = layout[k];
-    let style = l.style;
-    let e = want(slots, layout, style, s.first_child);
-    out[k] = with_wants(l, e);
     out
 }
 
@@ -478,6 +414,67 @@ fn content_corner(p: Edges, rect: Rect) -> Point
     }
 }
 
+// How many children a chain has, from its first on.
+fn child_count(slots: [Slot; 128], first: u32) -> u32
+    ensures { λ r. ⌜ r ≡ length (chain 128 slots first) ⌝ }
+{
+    let mut child = first;
+    let mut left: u32 = 128;
+    while child < 128 {
+        if left == 0 {
+            return 128;
+        }
+        let k = child as usize;
+        let s = slots[k];
+        child = s.next_sibling;
+        left = left - 1;
+    }
+    128 - left
+}
+
+// The children of a chain: their main lengths summed, and the largest across.
+fn sum_children(slots: [Slot; 128], layout: [LayoutSlot; 128], d: Direction, first: u32) -> Lengths
+    ensures { λ r. ⌜ axesOf r ≡ laid.summed d noAxes (map (laid.seen layout) (chain 128 slots first)) ⌝ }
+{
+    let mut sum = Lengths { main: 0, cross: 0 };
+    let mut child = first;
+    let mut left: u32 = 128;
+    while child < 128 {
+        if left == 0 {
+            return sum;
+        }
+        let k = child as usize;
+        let l = layout[k];
+        sum = with_child(sum, d, l);
+        let s = slots[k];
+        child = s.next_sibling;
+        left = left - 1;
+    }
+    sum
+}
+
+// The children's extent: outer lengths with a gap between each two, and the largest across.
+fn content_extent_of(
+    slots: [Slot; 128],
+    layout: [LayoutSlot; 128],
+    style: Style,
+    first: u32,
+) -> Lengths
+    ensures { λ r. ⌜ axesOf r ≡ laid.content style (map (laid.seen layout) (chain 128 slots first)) ⌝ }
+{
+    let d = style.direction;
+    let sum = sum_children(slots, layout, d, first);
+    let count = child_count(slots, first);
+    if count < 2 {
+        return sum;
+    }
+    let gaps = scalar::gap_times(style.gap, count - 1);
+    Lengths {
+        main: scalar::saturating_add(sum.main, gaps),
+        cross: sum.cross,
+    }
+}
+
 // The children of a node get their boxes in its own.
 fn arrange_in(
     slots: [Slot; 128],
@@ -494,7 +491,7 @@ fn arrange_in(
     let count = child_count(slots, first);
     let corner = content_corner(p, rect);
     let room = inner(d, p, rect);
-    let content = content_extent(slots, layout, style, first);
+    let content = content_extent_of(slots, layout, style, first);
     let leftover = scalar::saturating_sub(room.main, content.main);
     let shares = shares_of(slots, layout, leftover, first);
     let run = Lengths {
@@ -527,13 +524,14 @@ fn places(count: u32) -> u32
 }
 
 // The first `count` slots of an order store what they want to be, the last first: children before parents.
-pub fn measure_all(
+// One function with both loops, since a call for each slot would copy the arrays.
+fn measure_all(
     slots: [Slot; 128],
     layout: [LayoutSlot; 128],
     ids: [u32; 128],
     count: u32,
 ) -> [LayoutSlot; 128]
-    ensures { λ r. ⌜ r ≡ laid.measureAll slots layout (take count ids) ⌝ }
+    ensures { λ r. ⌜ (Slotted (take count ids) → r ≡ laid.measureAll slots layout (take count ids)) ⌝ }
 {
     let mut out = layout;
     let mut j = places(count);
@@ -541,8 +539,27 @@ pub fn measure_all(
         j = j - 1;
         let k = j as usize;
         let id = ids[k];
-        let next = measure(slots, out, id);
-        out = next;
+        if id >= 128 {
+            return out;
+        }
+        let i = id as usize;
+        let node = slots[i];
+        let l = out[i];
+        let style = l.style;
+        let d = style.direction;
+        let mut sum = Lengths { main: 0, cross: 0 };
+        let mut child = node.first_child;
+        let mut n: u32 = 0;
+        while (child < 128) & (n < 128) {
+            let c = child as usize;
+            let o = out[c];
+            sum = with_child(sum, d, o);
+            let s = slots[c];
+            child = s.next_sibling;
+            n = n + 1;
+        }
+        let e = want(style, sum, n);
+        out[i] = with_wants(l, e);
     }
     out
 }

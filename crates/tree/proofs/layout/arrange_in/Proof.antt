@@ -29,8 +29,8 @@ content-corner-requires c κs = search needs
 inner-requires : tie.Need-inner-requires
 inner-requires c κs = search needs
 
-content-extent-requires : tie.Need-content-extent-requires
-content-extent-requires c κs = search needs
+content-extent-of-requires : tie.Need-content-extent-of-requires
+content-extent-of-requires c κs = search needs
 
 saturating-sub-requires : tie.Need-saturating-sub-requires
 saturating-sub-requires c κs = search needs
@@ -55,8 +55,8 @@ returns c = let a = c .before .before .before .before .before .before .before .b
     let again : toZ w64 (ofZ w64 left) ≡ left = back left (k .ok) in
     let hl : left ≡ subSat (innerOf (a .style .direction) (a .style .padding) (a .rect) .main) (content (a .style) cs .main) =
     k .ensures
-    ∙ ap (λ (z : ℤ). subSat z (toZ w64 (ofZ w64 (c .before .before .before .before .before .before .before .content-extent .result .main)))) (back (room .result .main) (c .before .before .before .before .before .before .struct-told .given .0 .1) ∙ ap (λ (x : Axes). x .main) (room .ensures))
-    ∙ ap (λ (z : ℤ). subSat (innerOf (a .style .direction) (a .style .padding) (a .rect) .main) z) (back (c .before .before .before .before .before .before .before .content-extent .result .main) (c .before .before .before .before .before .struct-told2 .given .0 .1) ∙ ap (λ (x : Axes). x .main) (c .before .before .before .before .before .before .before .content-extent .ensures)) in
+    ∙ ap (λ (z : ℤ). subSat z (toZ w64 (ofZ w64 (c .before .before .before .before .before .before .before .content-extent-of .result .main)))) (back (room .result .main) (c .before .before .before .before .before .before .struct-told .given .0 .1) ∙ ap (λ (x : Axes). x .main) (room .ensures))
+    ∙ ap (λ (z : ℤ). subSat (innerOf (a .style .direction) (a .style .padding) (a .rect) .main) z) (back (c .before .before .before .before .before .before .before .content-extent-of .result .main) (c .before .before .before .before .before .struct-told2 .given .0 .1) ∙ ap (λ (x : Axes). x .main) (c .before .before .before .before .before .before .before .content-extent-of .ensures)) in
     let hs : c .before .before .before .shares-of .result ≡ planGrowth left (map growOf cs) (length cs) =
     c .before .before .before .shares-of .ensures
     ∙ ap (λ (z : ℤ). planGrowth z (map growOf cs) (length ks)) again
@@ -76,7 +76,7 @@ arrange-in-spec =
     child-count-requires
     content-corner-requires
     inner-requires
-    content-extent-requires
+    content-extent-of-requires
     saturating-sub-requires
     shares-of-requires
     run-start-requires

@@ -11,7 +11,7 @@ use borrow.Author.Needs.{needs}
 use Rattle.tree.proofs.SlottedOrders.{order-slotted, root-slotted}
 use Rattle.tree.proofs.Signs.{back}
 use Rattle.tree.specs.declared.LayoutSlot.{LayoutSlot}
-use Rattle.tree.specs.Views.{listed}
+use Rattle.tree.specs.Views.{listed, Slotted}
 use Rattle.tree.specs.Layout.{measureAll, arrangeAll, withRect, viewRect, passed}
 use Rattle.tree.specs.Styles.{layoutAt}
 use Rattle.tree.specs.Slots.{order}
@@ -49,10 +49,11 @@ returns c = let a = c .before .before .before .before .before .before .before .b
     w .ensures
     ∙ ap (λ (z : ℤ). withRect (layoutAt (m .result) 0) (record { x = pos 0; y = pos 0; width = z; height = toZ w64 (ofZ w64 (a .view .height)) })) (back (a .view .width) (c .before .before .struct-told .given .0 .1))
     ∙ ap (λ (z : ℤ). withRect (layoutAt (m .result) 0) (record { x = pos 0; y = pos 0; width = a .view .width; height = z })) (back (a .view .height) (c .before .before .struct-told .given .1 .0 .1)) in
-    c .arrange-all .ensures (rw is (order-slotted 128 (a .slots) (0 ∷ []) root-slotted))
+    let slotted : Slotted (take (n .result) (o .result .ids)) = rw is (order-slotted 128 (a .slots) (0 ∷ []) root-slotted) in
+    c .arrange-all .ensures slotted
     ∙ ap (λ (l : List ℕ). arrangeAll (a .slots) (set (m .result) 0 (w .result)) l) is
     ∙ ap (λ (x : LayoutSlot). arrangeAll (a .slots) (set (m .result) 0 x) all) box
-    ∙ ap (λ (l : List LayoutSlot). arrangeAll (a .slots) (set l 0 (withRect (layoutAt l 0) (viewRect (a .view)))) all) (m .ensures ∙ ap (λ (l : List ℕ). measureAll (a .slots) (a .layout) l) is)
+    ∙ ap (λ (l : List LayoutSlot). arrangeAll (a .slots) (set l 0 (withRect (layoutAt l 0) (viewRect (a .view)))) all) (m .ensures slotted ∙ ap (λ (l : List ℕ). measureAll (a .slots) (a .layout) l) is)
 
 pub solve-spec : {M : Type 1} → statement M
 solve-spec =
