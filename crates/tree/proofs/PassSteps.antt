@@ -6,11 +6,12 @@ use Prim.Native.Nat.{ℕ, zero, suc, _+_, _-_, _≤_, _<_}
 use native.Mathlib.Omega.{arith}
 use borrow.Author.Tests.{ltb-true, ltb-false}
 use lib.Dec.{ltb}
-use lib.ListN.{length, length-map, set}
+use lib.ListN.{length, length-map, getD, set, take}
+use lib.Seq.{getD-take}
 use Rattle.tree.specs.Slots.{Slots, at, chain, kidsAt}
 use Rattle.tree.specs.Styles.{layoutAt}
 use Rattle.tree.specs.Layout.{Extent, seen, summed, want, withWants, measureAt}
-use Rattle.tree.specs.Views.{axesOf, noAxes, joined, SumOf}
+use Rattle.tree.specs.Views.{axesOf, noAxes, joined, SumOf, Slotted}
 use Rattle.tree.specs.declared.Direction.{Direction}
 use Rattle.tree.specs.declared.LayoutSlot.{LayoutSlot}
 use Rattle.tree.specs.declared.layout.Lengths.{Lengths}
@@ -38,6 +39,10 @@ one-more : (s : Slots) (child n : ℕ) → child < 128 → n < 128 → chain (12
 one-more s child n h k =
     let e : 128 - n - 1 ≡ 128 - (n + 1) = omega arith in
     chain-more s (128 - n) child (λ z. omega arith) h ∙ ap (λ (m : ℕ). child ∷ chain m s (at s child .«next_sibling»)) e
+
+-- What an order of slots has at a place is a slot.
+pub slot-of : (count : ℕ) (ids : List ℕ) (j : ℕ) → j < count → Slotted (take count ids) → getD ids j 0 < 128
+slot-of count ids j h s = rw (getD-take count ids j 0 h) at (s j)
 
 -- Of the children from `first` on n are passed and summed, and the walk stands at `child`.
 pub record Summing (s : Slots) (l : List LayoutSlot) (d : Direction) (first : ℕ) (sum : Lengths) (child n : ℕ) : Type 0 where

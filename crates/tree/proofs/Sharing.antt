@@ -36,7 +36,7 @@ unfolding planGrowth
 same-grows-same-plan (pos l) g h count e = plan-by l g count ∙ ap (λ (f : ℕ → ℕ). table 128 (λ k. pos (share-by l f (min count 128) k))) (fun-ext e) ∙ sym (plan-by l h count)
 same-grows-same-plan (negsuc l) g h count e = refl
 
-zero-read : (n k : ℕ) → _≡_ {A = ℕ} (getD (replicate n 0) k 0) 0
+pub zero-read : (n k : ℕ) → _≡_ {A = ℕ} (getD (replicate n 0) k 0) 0
 zero-read zero k = refl
 zero-read (suc n) zero = refl
 zero-read (suc n) (suc k) = zero-read n k

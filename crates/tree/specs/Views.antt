@@ -1,7 +1,7 @@
 -- What layout's code hands around, as the records of its definitions.
 use Rattle.arithmetic.specs.Scalar.{addSat, subSat, maxOf}
-use Prim.Native.Nat.{ℕ, zero, suc, _+_, _<_, _≤_}
-use mathlib.Core.List.{List, _++_}
+use Prim.Native.Nat.{ℕ, zero, suc, _+_, _<_}
+use mathlib.Core.List.{List}
 use mathlib.Core.Path.{_≡_}
 use lib.IntN.{ℤ, pos}
 use lib.ListN.{length, getD, replicate, take}
@@ -71,9 +71,3 @@ Slotted ids = (k : ℕ) → getD ids k 0 < 128
 -- The slots of an order.
 unfoldable pub listed : Order → List ℕ
 listed q = take (q .count) (q .ids)
-
--- A list went behind an order, as far as 128 places hold it.
-pub record Pushed (q r : Order) (l : List ℕ) : Type 0 where
-  pub room : q .count ≤ 128 → r .count ≤ 128
-  pub more : q .count ≤ r .count
-  pub is : listed r ≡ take 128 (listed q ++ l)

@@ -13,7 +13,7 @@ ghost use lib.Dec.{ltb};
 ghost use Rattle.tree.specs.Tests.{pick};
 ghost use Rattle.tree.specs.Slots.{chain, order};
 ghost use Rattle.tree.specs.Layout as laid;
-ghost use Rattle.tree.specs.Views.{childOf, axesOf, extentOf, noAxes, joined, grownOf, boxAt, pastOf, growOf, noGrows, addedFrom, innerOf, Slotted, listed, Pushed, SumOf};
+ghost use Rattle.tree.specs.Views.{childOf, axesOf, extentOf, noAxes, joined, grownOf, boxAt, pastOf, growOf, noGrows, addedFrom, innerOf, Slotted, listed, SumOf};
 use crate::Align;
 use crate::Direction;
 use crate::Edges;
@@ -23,7 +23,6 @@ use crate::Size;
 use crate::Slot;
 use crate::Style;
 use crate::Viewport;
-use crate::input;
 use arithmetic::growth;
 use arithmetic::scalar;
 
@@ -531,17 +530,15 @@ fn measure_all(
     ids: [u32; 128],
     count: u32,
 ) -> [LayoutSlot; 128]
-    ensures { λ r. ⌜ (Slotted (take count ids) → r ≡ laid.measureAll slots layout (take count ids)) ⌝ }
+    requires { ⌜ (count ≤ 128) × Slotted (take count ids) ⌝ }
+    ensures { λ r. ⌜ r ≡ laid.measureAll slots layout (take count ids) ⌝ }
 {
     let mut out = layout;
-    let mut j = places(count);
+    let mut j = count;
     while j > 0 {
         j = j - 1;
         let k = j as usize;
         let id = ids[k];
-        if id >= 128 {
-            return out;
-        }
         let i = id as usize;
         let node = slots[i];
         let l = out[i];
@@ -587,56 +584,35 @@ pub fn arrange_all(
 }
 
 // Slots in an order: the first `count` of the ids.
-pub struct Order {
-    pub ids: [u32; 128],
-    pub count: usize,
+struct Order {
+    ids: [u32; 128],
+    count: u32,
 }
 
-fn root_alone() -> Order
-    ensures { λ r. ⌜ (r .count ≡ 1) × (listed r ≡ 0 ∷ []) ⌝ }
-{
-    let ids = [0u32; 128];
-    Order { ids, count: 1 }
-}
-
-// A chain of siblings goes behind the order, as far as there is room.
-fn push_chain(q: Order, slots: [Slot; 128], first: u32) -> Order
-    ensures { λ r. ⌜ Pushed q r (chain 128 slots first) ⌝ }
-{
-    let mut out = q;
-    let mut child = first;
-    let mut left: u32 = 128;
-    while child < 128 {
-        let n = out.count;
-        if left == 0 {
-            return out;
-        }
-        if n >= 128 {
-            return out;
-        }
-        out.ids[n] = child;
-        out.count = n + 1;
-        let k = child as usize;
-        let s = slots[k];
-        child = s.next_sibling;
-        left = left - 1;
-    }
-    out
-}
-
-// Every slot below the root, parents before children, a level at a time.
-pub fn collect_order(slots: [Slot; 128]) -> Order
+// Every slot below the root, parents before children, a level at a time. The order is its own queue.
+fn collect_order(slots: [Slot; 128]) -> Order
     ensures { λ r. ⌜ (r .count ≤ 128) × (listed r ≡ order 128 slots (0 ∷ [])) ⌝ }
 {
-    let mut q = root_alone();
-    let mut at: usize = 0;
-    while at < q.count {
-        let id = q.ids[at];
-        let first = input::first_child(slots, id);
-        q = push_chain(q, slots, first);
+    let mut ids = [0u32; 128];
+    let mut count: u32 = 1;
+    let mut at: u32 = 0;
+    while at < count {
+        let k = at as usize;
+        let id = ids[k];
+        let i = id as usize;
+        let node = slots[i];
+        let mut child = node.first_child;
+        while (child < 128) & (count < 128) {
+            let n = count as usize;
+            ids[n] = child;
+            count = count + 1;
+            let c = child as usize;
+            let s = slots[c];
+            child = s.next_sibling;
+        }
         at = at + 1;
     }
-    q
+    Order { ids, count }
 }
 
 // A pass: the wanted sizes from the last of the order to the first, the viewport for the root, then the boxes.
@@ -645,7 +621,7 @@ pub fn solve(slots: [Slot; 128], layout: [LayoutSlot; 128], view: Viewport) -> [
 {
     let o = collect_order(slots);
     let ids = o.ids;
-    let count = short(o.count);
+    let count = o.count;
     let mut out = measure_all(slots, layout, ids, count);
     let root = out[0];
     let rect = Rect {
@@ -656,11 +632,4 @@ pub fn solve(slots: [Slot; 128], layout: [LayoutSlot; 128], view: Viewport) -> [
     };
     out[0] = with_rect(root, rect);
     arrange_all(slots, out, ids, count)
-}
-
-// A count of at most 128 places, in 32 bits.
-fn short(count: usize) -> u32
-    ensures { λ r. ⌜ r ≡ min count 128 ⌝ }
-{
-    if count < 128 { count as u32 } else { 128 }
 }

@@ -1,20 +1,23 @@
 -- The slots passed, from the last on, are measured; the index falls. Along a node's children what is left of the sum gives the whole. Assumes nothing.
-use lib.Seq.{getD-take}
 use lib.ListN.{take, drop, getD}
 use native.Mathlib.Omega.{arith}
-use Prim.Native.Nat.{_-_, _≤_, _<_, min}
+use Prim.Native.Nat.{_-_, _≤_, _<_}
 use mathlib.Core.List.{List, map}
 use mathlib.Core.Path.{_≡_, refl, _∙_, ap}
 use borrow.Author.Needs.{needs}
 use Rattle.tree.proofs.Passes.{measured-none, measured-more}
-use Rattle.tree.proofs.PassSteps.{goes-on, Summing, summing-more, summing-done, measured}
+use Rattle.tree.proofs.PassSteps.{goes-on, slot-of, Summing, summing-more, summing-done, measured}
 use Rattle.tree.specs.declared.LayoutSlot.{LayoutSlot}
-use Rattle.tree.specs.Views.{Slotted}
 use Rattle.tree.specs.Styles.{layoutAt}
 use Rattle.tree.specs.Slots.{kidsAt, at}
 use Rattle.tree.specs.Layout.{measureAll, measureAt, seen}
 use Rattle.tree.proofs.layout.measure_all.Statement.{statement}
 use Rattle.tree.proofs.layout.measure_all.Tie as tie
+use Rattle.tree.proofs.layout.measure_all.Reads as reads
+use Rattle.tree.proofs.layout.measure_all.Lts as lts
+use Rattle.tree.proofs.layout.want.Reads as want-reads
+use Rattle.tree.proofs.layout.with_child.Reads as with-child-reads
+use Rattle.tree.proofs.layout.with_wants.Reads as with-wants-reads
 
 abbrev Inv-loop2 : tie.InvT-loop2
 Inv-loop2 count slots ids out j k id i l style d sum₀ child₀ n₀ sum child n = Summing slots out d child₀ sum child n
@@ -23,18 +26,13 @@ abbrev μ-loop2 : tie.MeasureT-loop2
 μ-loop2 count slots ids out j k id i l style d sum₀ child₀ n₀ sum child n = 128 - n
 
 abbrev Inv-loop : tie.InvT-loop
-Inv-loop count slots ids out₀ j₀ out j =
-    (Slotted (take count ids) → out ≡ measureAll slots out₀ (drop j (take count ids))) × (j ≤ min count 128)
+Inv-loop count slots ids out₀ j₀ out j = (out ≡ measureAll slots out₀ (drop j (take count ids))) × (j ≤ count)
 
 abbrev μ-loop : tie.MeasureT-loop
 μ-loop count slots ids out₀ j₀ out j = j
 
-places-requires : tie.Need-places-requires Inv-loop2 μ-loop2 Inv-loop μ-loop
-places-requires c κs = search needs
-
 loop-holds : tie.Need-loop-holds Inv-loop2 μ-loop2 Inv-loop μ-loop
-loop-holds c = let a = c .before .args in
-    ((λ h. measured-none (a .t1) (a .layout) (c .places .result) (a .count) (a .t3) (omega (arith, c .places .ensures, c .before .good .1 .1 .0 .1 .0 .1))), omega (arith, c .places .ensures))
+loop-holds c = (measured-none (c .args .t1) (c .args .layout) (c .args .count) (c .args .count) (c .args .t3) (omega (arith, c .pre .0, c .good .1 .1 .0 .1 .0 .1)), omega arith)
 
 sub-j : tie.Need-sub-j Inv-loop2 μ-loop2 Inv-loop μ-loop
 sub-j c = search needs
@@ -48,24 +46,20 @@ mul-id c = search needs
 array-read-id : tie.Need-array-read-id Inv-loop2 μ-loop2 Inv-loop μ-loop
 array-read-id c = search needs
 
-returns : tie.Need-returns Inv-loop2 μ-loop2 Inv-loop μ-loop
-returns c = let l = c .before .before .loop in let a = c .before .before .before .before .args in
-    λ h. let small = rw (getD-take (a .count) (a .t3) (l .j - 1) 0 (omega (arith, c .before .loop-test .taken, l .inv .1))) at (h (l .j - 1)) in absurd (omega (arith, small, c .if1 .taken))
-
 cast-i : tie.Need-cast-i Inv-loop2 μ-loop2 Inv-loop μ-loop
 cast-i c = search needs
 
 mul-node : tie.Need-mul-node Inv-loop2 μ-loop2 Inv-loop μ-loop
-mul-node c = search needs
+mul-node c = let l = c .before .loop in let b = slot-of (c .before .before .args .count) (c .before .before .args .t3) (l .j - 1) (omega (arith, c .loop-test .taken, l .inv .1)) (c .before .before .pre .1) in search needs
 
 array-copy-out-node : tie.Need-array-copy-out-node Inv-loop2 μ-loop2 Inv-loop μ-loop
-array-copy-out-node c = search needs
+array-copy-out-node c = let l = c .before .loop in let b = slot-of (c .before .before .args .count) (c .before .before .args .t3) (l .j - 1) (omega (arith, c .loop-test .taken, l .inv .1)) (c .before .before .pre .1) in search needs
 
 mul-l : tie.Need-mul-l Inv-loop2 μ-loop2 Inv-loop μ-loop
-mul-l c = search needs
+mul-l c = let l = c .before .before .loop in let b = slot-of (c .before .before .before .args .count) (c .before .before .before .args .t3) (l .j - 1) (omega (arith, c .before .loop-test .taken, l .inv .1)) (c .before .before .before .pre .1) in search needs
 
 array-copy-out-l : tie.Need-array-copy-out-l Inv-loop2 μ-loop2 Inv-loop μ-loop
-array-copy-out-l c = search needs
+array-copy-out-l c = let l = c .before .before .loop in let b = slot-of (c .before .before .before .args .count) (c .before .before .before .args .t3) (l .j - 1) (omega (arith, c .before .loop-test .taken, l .inv .1)) (c .before .before .before .pre .1) in search needs
 
 loop2-holds : tie.Need-loop2-holds Inv-loop2 μ-loop2 Inv-loop μ-loop
 loop2-holds c = record { most = omega arith; counts = omega arith; sums = refl }
@@ -105,27 +99,27 @@ with-wants-requires : tie.Need-with-wants-requires Inv-loop2 μ-loop2 Inv-loop �
 with-wants-requires c κs = search needs
 
 mul-out : tie.Need-mul-out Inv-loop2 μ-loop2 Inv-loop μ-loop
-mul-out c = search needs
+mul-out c = let l = c .before .before .before .before .before .before .before .before .loop in let b = slot-of (c .before .before .before .before .before .before .before .before .before .args .count) (c .before .before .before .before .before .before .before .before .before .args .t3) (l .j - 1) (omega (arith, c .before .before .before .before .before .before .before .loop-test .taken, l .inv .1)) (c .before .before .before .before .before .before .before .before .before .pre .1) in search needs
 
 array-set-from-out : tie.Need-array-set-from-out Inv-loop2 μ-loop2 Inv-loop μ-loop
-array-set-from-out c = search needs
+array-set-from-out c = let l = c .before .before .before .before .before .before .before .before .loop in let b = slot-of (c .before .before .before .before .before .before .before .before .before .args .count) (c .before .before .before .before .before .before .before .before .before .args .t3) (l .j - 1) (omega (arith, c .before .before .before .before .before .before .before .loop-test .taken, l .inv .1)) (c .before .before .before .before .before .before .before .before .before .pre .1) in search needs
 
 loop-less : tie.Need-loop-less Inv-loop2 μ-loop2 Inv-loop μ-loop
 loop-less c = search needs
 
 loop-again : tie.Need-loop-again Inv-loop2 μ-loop2 Inv-loop μ-loop
 unfolding kidsAt at layoutAt
-loop-again c = let l = c .before .before .before .before .before .before .before .before .before .loop in let a = c .before .before .before .before .before .before .before .before .before .before .before .args in
+loop-again c = let l = c .before .before .before .before .before .before .before .before .loop in let a = c .before .before .before .before .before .before .before .before .before .args in
     let sums = summing-done (layoutAt (l .out) (getD (a .t3) (l .j - 1) 0) .style) refl (c .before .before .before .loop2 .inv) (c .before .before .loop2-test .left) in (
-      (λ h. measured (a .t1) (l .out) (getD (a .t3) (l .j - 1) 0) (c .with-wants .result) _ (c .with-wants .ensures) (c .before .want .ensures _ sums)
-          ∙ ap (λ (x : List LayoutSlot). measureAt (a .t1) x (getD (a .t3) (l .j - 1) 0)) (l .inv .0 h)
-          ∙ measured-more (a .t1) (a .layout) (l .j) (a .count) (a .t3) (omega (arith, c .before .before .before .before .before .before .before .before .loop-test .taken)) (omega (arith, l .inv .1)) (omega (arith, l .inv .1, c .before .before .before .before .before .before .before .before .before .before .before .good .1 .1 .0 .1 .0 .1))),
+      measured (a .t1) (l .out) (getD (a .t3) (l .j - 1) 0) (c .with-wants .result) _ (c .with-wants .ensures) (c .before .want .ensures _ sums)
+          ∙ ap (λ (x : List LayoutSlot). measureAt (a .t1) x (getD (a .t3) (l .j - 1) 0)) (l .inv .0)
+          ∙ measured-more (a .t1) (a .layout) (l .j) (a .count) (a .t3) (omega (arith, c .before .before .before .before .before .before .before .loop-test .taken)) (omega (arith, l .inv .1)) (omega (arith, l .inv .1, c .before .before .before .before .before .before .before .before .before .pre .0, c .before .before .before .before .before .before .before .before .before .good .1 .1 .0 .1 .0 .1)),
       omega (arith, l .inv .1),
     )
 
-returns-2 : tie.Need-returns-2 Inv-loop2 μ-loop2 Inv-loop μ-loop
-returns-2 c = let l = c .before .loop in
-    λ h. let e : l .j ≡ 0 = omega (arith, c .loop-test .left) in rw e at (l .inv .0 h)
+returns : tie.Need-returns Inv-loop2 μ-loop2 Inv-loop μ-loop
+returns c = let l = c .before .loop in
+    let e : l .j ≡ 0 = omega (arith, c .loop-test .left) in rw e at (l .inv .0)
 
 pub measure-all-spec : {M : Type 1} → statement M
 measure-all-spec =
@@ -135,13 +129,11 @@ measure-all-spec =
     μ-loop2
     Inv-loop
     μ-loop
-    places-requires
     loop-holds
     sub-j
     cast-k
     mul-id
     array-read-id
-    returns
     cast-i
     mul-node
     array-copy-out-node
@@ -163,4 +155,4 @@ measure-all-spec =
     array-set-from-out
     loop-less
     loop-again
-    returns-2)
+    returns)
