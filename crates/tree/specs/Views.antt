@@ -1,11 +1,12 @@
 -- What layout's code hands around, as the records of its definitions.
 use Rattle.arithmetic.specs.Scalar.{addSat, subSat, maxOf}
+use Rattle.arithmetic.specs.Growth.{planGrowth}
 use Prim.Native.Nat.{ℕ, zero, suc, _+_, _<_}
 use mathlib.Core.List.{List}
 use mathlib.Core.Path.{_≡_}
 use lib.IntN.{ℤ, pos}
 use lib.ListN.{length, getD, replicate, take}
-use Rattle.tree.specs.Layout.{Axes, Extent, Child, axes, outer, summed, offset, boxed}
+use Rattle.tree.specs.Layout.{Axes, Extent, Child, axes, outer, summed, total, offset, boxed}
 use Rattle.tree.specs.declared.Direction.{Direction}
 use Rattle.tree.specs.declared.Direction.the-variants.{Row, Column}
 use Rattle.tree.specs.declared.Style.{Style}
@@ -55,10 +56,13 @@ growOf c = c .style .grow
 unfoldable pub noGrows : List ℕ
 noGrows = replicate 128 0
 
--- k shares from a place on, added one by one to a sum.
-unfoldable pub addedFrom : ℤ → List ℤ → ℕ → ℕ → ℤ
-addedFrom sum shares n zero = sum
-addedFrom sum shares n (suc k) = addedFrom (addSat sum (getD shares n (pos 0))) shares (n + 1) k
+unfoldable pub noShares : List ℤ
+noShares = replicate 128 (pos 0)
+
+-- The shares of a leftover among the first n children, and what they leave free.
+pub record SharedOut (leftover : ℤ) (grows : List ℕ) (n : ℕ) (shares : List ℤ) (free : ℤ) : Type 0 where
+  pub shared : shares ≡ planGrowth leftover grows n
+  pub rest : free ≡ subSat leftover (total (take n (planGrowth leftover grows n)))
 
 -- A node's box less its padding, along its axes.
 unfoldable pub innerOf : Direction → Edges → Rect → Axes

@@ -12,8 +12,6 @@ use Rattle.tree.specs.Views.{listed}
 use Rattle.tree.specs.Slots.{at, kidsAt, order}
 use Rattle.tree.proofs.layout.collect_order.Statement.{statement}
 use Rattle.tree.proofs.layout.collect_order.Tie as tie
-use Rattle.tree.proofs.layout.collect_order.Reads as reads
-use Rattle.tree.proofs.layout.collect_order.Lts as lts
 
 abbrev Inv-loop2 : tie.InvT-loop2
 Inv-loop2 slots ids₀ count₀ at k id i child₀ ids count child = Pushing slots (take count₀ ids₀) count₀ child₀ ids count child

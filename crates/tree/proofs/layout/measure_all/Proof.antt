@@ -13,11 +13,6 @@ use Rattle.tree.specs.Slots.{kidsAt, at}
 use Rattle.tree.specs.Layout.{measureAll, measureAt, seen}
 use Rattle.tree.proofs.layout.measure_all.Statement.{statement}
 use Rattle.tree.proofs.layout.measure_all.Tie as tie
-use Rattle.tree.proofs.layout.measure_all.Reads as reads
-use Rattle.tree.proofs.layout.measure_all.Lts as lts
-use Rattle.tree.proofs.layout.want.Reads as want-reads
-use Rattle.tree.proofs.layout.with_child.Reads as with-child-reads
-use Rattle.tree.proofs.layout.with_wants.Reads as with-wants-reads
 
 abbrev Inv-loop2 : tie.InvT-loop2
 Inv-loop2 count slots ids out j k id i l style d sum₀ child₀ n₀ sum child n = Summing slots out d child₀ sum child n

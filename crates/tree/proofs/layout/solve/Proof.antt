@@ -10,7 +10,7 @@ use borrow.Author.Needs.{needs}
 use Rattle.tree.proofs.SlottedOrders.{order-slotted, root-slotted}
 use Rattle.tree.proofs.Signs.{back}
 use Rattle.tree.specs.declared.LayoutSlot.{LayoutSlot}
-use Rattle.tree.specs.Views.{listed, Slotted}
+use Rattle.tree.specs.Views.{listed}
 use Rattle.tree.specs.Layout.{measureAll, arrangeAll, withRect, viewRect, passed}
 use Rattle.tree.specs.Styles.{layoutAt}
 use Rattle.tree.specs.Slots.{order}
@@ -34,19 +34,19 @@ array-set-from-out : tie.Need-array-set-from-out
 array-set-from-out c = search needs
 
 arrange-all-requires : tie.Need-arrange-all-requires
-arrange-all-requires c κs = search needs
+unfolding listed
+arrange-all-requires c κs = let o = c .before .before .before .before .before .collect-order in (o .ensures .0, rw (o .ensures .1) (order-slotted 128 (c .before .before .before .before .before .before .args .slots) (0 ∷ []) root-slotted))
 
 returns : tie.Need-returns
 unfolding listed layoutAt passed
 returns c = let a = c .before .before .before .before .before .before .before .args in let o = c .before .before .before .before .before .before .collect-order in let m = c .before .before .before .before .measure-all in let w = c .before .with-rect in
     let all : List ℕ = order 128 (a .slots) (0 ∷ []) in
     let is : take (o .result .count) (o .result .ids) ≡ all = o .ensures .1 in
-    let slotted : Slotted (take (o .result .count) (o .result .ids)) = rw is (order-slotted 128 (a .slots) (0 ∷ []) root-slotted) in
     let box : w .result ≡ withRect (layoutAt (m .result) 0) (viewRect (a .view)) =
     w .ensures
     ∙ ap (λ (z : ℤ). withRect (layoutAt (m .result) 0) (record { x = pos 0; y = pos 0; width = z; height = toZ w64 (ofZ w64 (a .view .height)) })) (back (a .view .width) (c .before .before .struct-told .given .0 .1))
     ∙ ap (λ (z : ℤ). withRect (layoutAt (m .result) 0) (record { x = pos 0; y = pos 0; width = a .view .width; height = z })) (back (a .view .height) (c .before .before .struct-told .given .1 .0 .1)) in
-    c .arrange-all .ensures slotted
+    c .arrange-all .ensures
     ∙ ap (λ (l : List ℕ). arrangeAll (a .slots) (set (m .result) 0 (w .result)) l) is
     ∙ ap (λ (x : LayoutSlot). arrangeAll (a .slots) (set (m .result) 0 x) all) box
     ∙ ap (λ (l : List LayoutSlot). arrangeAll (a .slots) (set l 0 (withRect (layoutAt l 0) (viewRect (a .view)))) all) (m .ensures ∙ ap (λ (l : List ℕ). measureAll (a .slots) (a .layout) l) is)
