@@ -2,7 +2,7 @@
 use mathlib.Core.Path.{_≡_, refl, sym, ap, _∙_}
 use mathlib.Core.Bool.{Bool, true, false, _&&_}
 use mathlib.Core.List.{List, [], _∷_, map}
-use Prim.Native.Nat.{ℕ, zero, suc, _+_, _-_, _≤_, _<_}
+use Prim.Native.Nat.{ℕ, suc, _+_, _-_, _≤_, _<_}
 use native.Mathlib.Omega.{arith}
 use borrow.Author.Tests.{ltb-true, ltb-false}
 use lib.Dec.{ltb}
@@ -32,7 +32,7 @@ goes-on child n = go (ltb child 128) (ltb n 128) refl refl
     go true false e f h = let z : _≡_ {A = Bool} false true = h in absurd (let y : _≡_ {A = ℕ} 0 1 = cc in omega arith)
     go false b e f h = let z : _≡_ {A = Bool} false true = h in absurd (let y : _≡_ {A = ℕ} 0 1 = cc in omega arith)
 
-pub ended : (s : Slots) (child n : ℕ) → (ltb child 128 && ltb n 128) ≡ false → chain (128 - n) s child ≡ []
+ended : (s : Slots) (child n : ℕ) → (ltb child 128 && ltb n 128) ≡ false → chain (128 - n) s child ≡ []
 ended s child n = go (ltb child 128) (ltb n 128) refl refl
   where
     go : (a b : Bool) → ltb child 128 ≡ a → ltb n 128 ≡ b → (a && b) ≡ false → chain (128 - n) s child ≡ []

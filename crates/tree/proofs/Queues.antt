@@ -1,11 +1,11 @@
 -- The order that is read at one end and filled at the other. Assumes nothing.
 use mathlib.Core.Path.{_≡_, refl, sym, ap, _∙_}
-use mathlib.Core.List.{List, [], _∷_, _++_, append-assoc, append-nil}
+use mathlib.Core.List.{List, [], _∷_, _++_, append-nil}
 use Prim.Native.Nat.{ℕ, zero, suc, _+_, _-_, _≤_, _<_}
 use native.Mathlib.Omega.{arith}
 use native.Mathlib.Numerals.{add-one}
 use lib.ListN.{length, getD, take, drop, set, replicate, length-replicate, length-set, drop-of-length-le}
-use lib.Seq.{drop-cons, take-suc, take-suc-set, take-take, take-append-le, take-all, getD-take, append-snoc, drop-append-le, length-take-le, getD-set-same, getD-set-other}
+use lib.Seq.{drop-cons, take-suc, take-suc-set, take-take, take-append-le, take-all, append-snoc, drop-append-le, length-take-le, getD-set-same, getD-set-other}
 use Rattle.tree.proofs.TestLaws.{eq-cases}
 use borrow.Author.Tests.{ltb-false}
 use mathlib.Core.Bool.{Bool, true, false, _&&_}
@@ -26,13 +26,13 @@ module _ {A : Type 0} where
       nil (suc k) = refl
   drop-take (suc n) m (x ∷ l) = let e : suc n + m ≡ suc (n + m) = omega arith in rw e (drop-take n m l)
 
-  pub take-front : (n : ℕ) (q k : List A) → take n (take n q ++ k) ≡ take n (q ++ k)
+  take-front : (n : ℕ) (q k : List A) → take n (take n q ++ k) ≡ take n (q ++ k)
   take-front zero q k = refl
   take-front (suc n) [] k = refl
   take-front (suc n) (x ∷ q) k = ap (λ (l : List A). x ∷ l) (take-front n q k)
 
 -- of the queue only as much counts as there is fuel for
-pub order-take : (s : Slots) (n : ℕ) (q : List ℕ) → order n s (take n q) ≡ order n s q
+order-take : (s : Slots) (n : ℕ) (q : List ℕ) → order n s (take n q) ≡ order n s q
 unfolding order
 order-take s zero q = refl
 order-take s (suc n) [] = refl

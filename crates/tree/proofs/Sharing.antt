@@ -32,7 +32,7 @@ plan-by : (l : ℕ) (grows : List ℕ) (count : ℕ) → planGrowth (pos l) grow
 unfolding planGrowth share shareWithUnit wholeShare remainder missing growSum rank share-by
 plan-by l grows count = refl
 
-pub same-grows-same-plan : (l : ℤ) (g h : List ℕ) (count : ℕ) → ((k : ℕ) → getD g k 0 ≡ getD h k 0) → planGrowth l g count ≡ planGrowth l h count
+same-grows-same-plan : (l : ℤ) (g h : List ℕ) (count : ℕ) → ((k : ℕ) → getD g k 0 ≡ getD h k 0) → planGrowth l g count ≡ planGrowth l h count
 unfolding planGrowth
 same-grows-same-plan (pos l) g h count e = plan-by l g count ∙ ap (λ (f : ℕ → ℕ). table 128 (λ k. pos (share-by l f (min count 128) k))) (fun-ext e) ∙ sym (plan-by l h count)
 same-grows-same-plan (negsuc l) g h count e = refl
@@ -47,7 +47,7 @@ before-zeros [] z h k = h k
 before-zeros (x ∷ g) z h zero = refl
 before-zeros (x ∷ g) z h (suc k) = before-zeros g z h k
 
-pub padded-read : (g : List ℕ) → length g ≤ 128 → (k : ℕ) → getD (sets noGrows 0 g) k 0 ≡ getD g k 0
+padded-read : (g : List ℕ) → length g ≤ 128 → (k : ℕ) → getD (sets noGrows 0 g) k 0 ≡ getD g k 0
 unfolding noGrows
 padded-read g h k =
     ap (λ (l : List ℕ). getD l k 0) (sets-eq g (replicate 128 0) 0 (omega (arith, h, length-replicate {A = ℕ} 128 0)))

@@ -1,7 +1,7 @@
 -- What layout's code hands around, as the records of its definitions.
 use Rattle.arithmetic.specs.Scalar.{addSat, subSat, maxOf}
 use Rattle.arithmetic.specs.Growth.{planGrowth}
-use Prim.Native.Nat.{ℕ, zero, suc, _+_, _<_}
+use Prim.Native.Nat.{ℕ, _<_}
 use mathlib.Core.List.{List}
 use mathlib.Core.Path.{_≡_}
 use lib.IntN.{ℤ, pos}

@@ -438,18 +438,18 @@ fn arrange_all(
         let corner = content_corner(p, rect);
         let mut at = run_start(style, rect, free);
         let mut next = first;
-        let mut q: u32 = 0;
-        while (next < 128) & (q < 128) {
+        let mut passed: u32 = 0;
+        while (next < 128) & (passed < 128) {
             let c = next as usize;
             let o = out[c];
-            let m = q as usize;
+            let m = passed as usize;
             let growth = shares[m];
             let b = child_box(style, corner, at, growth, o);
             out[c] = with_rect(o, b);
             at = past_child(style, at, growth, o);
             let s = slots[c];
             next = s.next_sibling;
-            q = q + 1;
+            passed = passed + 1;
         }
     }
     out

@@ -1,10 +1,9 @@
 -- What is left of the order, arranged from here, gives the whole; so it is with what is left of a node's children, summed and then placed. Assumes nothing.
-use lib.IntN.{ℤ, pos}
-use lib.ListN.{length, take, drop, getD}
+use lib.ListN.{take, drop, getD}
 use native.Mathlib.Omega.{arith}
-use Prim.Native.Nat.{ℕ, _+_, _-_, _≤_, _<_}
+use Prim.Native.Nat.{ℕ, _+_, _-_, _≤_}
 use mathlib.Core.List.{List, map}
-use mathlib.Core.Path.{_≡_, refl, sym, _∙_, ap}
+use mathlib.Core.Path.{_≡_, refl, _∙_, ap}
 use borrow.Author.Needs.{needs}
 use Rattle.tree.proofs.Passes.{arranged-none, arranged-more}
 use Rattle.tree.proofs.PassSteps.{goes-on, slot-of, summing-done, Gathering, gathering-more, gathering-done, Boxing, boxing-more, boxing-done, arranged, arranged-leaf}
@@ -25,10 +24,10 @@ abbrev μ-loop2 : tie.MeasureT-loop2
 μ-loop2 count slots ids out j k id i first style rect d p grows₀ sum₀ child₀ n₀ grows sum child n = 128 - n
 
 abbrev Inv-loop3 : tie.InvT-loop3
-Inv-loop3 count slots ids out₀ j k id i first style child n leftover shares free corner at₀ next₀ q₀ out at next q = Boxing slots out₀ style (corner .x) (corner .y) shares first at₀ out at next q
+Inv-loop3 count slots ids out₀ j k id i first style child n leftover shares free corner at₀ next₀ passed₀ out at next passed = Boxing slots out₀ style (corner .x) (corner .y) shares first at₀ out at next passed
 
 abbrev μ-loop3 : tie.MeasureT-loop3
-μ-loop3 count slots ids out₀ j k id i first style child n leftover shares free corner at₀ next₀ q₀ out at next q = 128 - q
+μ-loop3 count slots ids out₀ j k id i first style child n leftover shares free corner at₀ next₀ passed₀ out at next passed = 128 - passed
 
 abbrev Inv-loop : tie.InvT-loop
 Inv-loop count slots ids out₀ j₀ out j =
@@ -161,24 +160,24 @@ loop-again-2 c = let l = c .before .before .before .before .before .before .befo
     )
 
 cast-c-2 : tie.Need-cast-c-2 Inv-loop2 μ-loop2 Inv-loop3 μ-loop3 Inv-loop μ-loop
-cast-c-2 c = let w = c .before .loop3 in let g = goes-on (w .next) (w .q) (c .loop3-test .taken) in search needs
+cast-c-2 c = let w = c .before .loop3 in let g = goes-on (w .next) (w .passed) (c .loop3-test .taken) in search needs
 
 mul-o-2 : tie.Need-mul-o-2 Inv-loop2 μ-loop2 Inv-loop3 μ-loop3 Inv-loop μ-loop
-mul-o-2 c = let w = c .before .loop3 in let g = goes-on (w .next) (w .q) (c .loop3-test .taken) in search needs
+mul-o-2 c = let w = c .before .loop3 in let g = goes-on (w .next) (w .passed) (c .loop3-test .taken) in search needs
 
 array-copy-out-o-2 :
     tie.Need-array-copy-out-o-2 Inv-loop2 μ-loop2 Inv-loop3 μ-loop3 Inv-loop μ-loop
-array-copy-out-o-2 c = let w = c .before .loop3 in let g = goes-on (w .next) (w .q) (c .loop3-test .taken) in search needs
+array-copy-out-o-2 c = let w = c .before .loop3 in let g = goes-on (w .next) (w .passed) (c .loop3-test .taken) in search needs
 
 cast-m-2 : tie.Need-cast-m-2 Inv-loop2 μ-loop2 Inv-loop3 μ-loop3 Inv-loop μ-loop
-cast-m-2 c = let w = c .before .before .loop3 in let g = goes-on (w .next) (w .q) (c .before .loop3-test .taken) in search needs
+cast-m-2 c = let w = c .before .before .loop3 in let g = goes-on (w .next) (w .passed) (c .before .loop3-test .taken) in search needs
 
 mul-growth : tie.Need-mul-growth Inv-loop2 μ-loop2 Inv-loop3 μ-loop3 Inv-loop μ-loop
-mul-growth c = let w = c .before .before .loop3 in let g = goes-on (w .next) (w .q) (c .before .loop3-test .taken) in search needs
+mul-growth c = let w = c .before .before .loop3 in let g = goes-on (w .next) (w .passed) (c .before .loop3-test .taken) in search needs
 
 array-copy-out-growth :
     tie.Need-array-copy-out-growth Inv-loop2 μ-loop2 Inv-loop3 μ-loop3 Inv-loop μ-loop
-array-copy-out-growth c = let w = c .before .before .loop3 in let g = goes-on (w .next) (w .q) (c .before .loop3-test .taken) in search needs
+array-copy-out-growth c = let w = c .before .before .loop3 in let g = goes-on (w .next) (w .passed) (c .before .loop3-test .taken) in search needs
 
 child-box-requires :
     tie.Need-child-box-requires Inv-loop2 μ-loop2 Inv-loop3 μ-loop3 Inv-loop μ-loop
@@ -189,28 +188,28 @@ with-rect-requires :
 with-rect-requires c κs = search needs
 
 mul-out : tie.Need-mul-out Inv-loop2 μ-loop2 Inv-loop3 μ-loop3 Inv-loop μ-loop
-mul-out c = let w = c .before .before .before .before .before .loop3 in let g = goes-on (w .next) (w .q) (c .before .before .before .before .loop3-test .taken) in search needs
+mul-out c = let w = c .before .before .before .before .before .loop3 in let g = goes-on (w .next) (w .passed) (c .before .before .before .before .loop3-test .taken) in search needs
 
 array-set-from-out :
     tie.Need-array-set-from-out Inv-loop2 μ-loop2 Inv-loop3 μ-loop3 Inv-loop μ-loop
-array-set-from-out c = let w = c .before .before .before .before .before .loop3 in let g = goes-on (w .next) (w .q) (c .before .before .before .before .loop3-test .taken) in search needs
+array-set-from-out c = let w = c .before .before .before .before .before .loop3 in let g = goes-on (w .next) (w .passed) (c .before .before .before .before .loop3-test .taken) in search needs
 
 past-child-requires :
     tie.Need-past-child-requires Inv-loop2 μ-loop2 Inv-loop3 μ-loop3 Inv-loop μ-loop
 past-child-requires c κs = search needs
 
 mul-s-2 : tie.Need-mul-s-2 Inv-loop2 μ-loop2 Inv-loop3 μ-loop3 Inv-loop μ-loop
-mul-s-2 c = let w = c .before .before .before .before .before .before .loop3 in let g = goes-on (w .next) (w .q) (c .before .before .before .before .before .loop3-test .taken) in search needs
+mul-s-2 c = let w = c .before .before .before .before .before .before .loop3 in let g = goes-on (w .next) (w .passed) (c .before .before .before .before .before .loop3-test .taken) in search needs
 
 array-copy-out-s-2 :
     tie.Need-array-copy-out-s-2 Inv-loop2 μ-loop2 Inv-loop3 μ-loop3 Inv-loop μ-loop
-array-copy-out-s-2 c = let w = c .before .before .before .before .before .before .loop3 in let g = goes-on (w .next) (w .q) (c .before .before .before .before .before .loop3-test .taken) in search needs
+array-copy-out-s-2 c = let w = c .before .before .before .before .before .before .loop3 in let g = goes-on (w .next) (w .passed) (c .before .before .before .before .before .loop3-test .taken) in search needs
 
-add-q : tie.Need-add-q Inv-loop2 μ-loop2 Inv-loop3 μ-loop3 Inv-loop μ-loop
-add-q c = let w = c .before .before .before .before .before .before .before .loop3 in let g = goes-on (w .next) (w .q) (c .before .before .before .before .before .before .loop3-test .taken) in search needs
+add-passed : tie.Need-add-passed Inv-loop2 μ-loop2 Inv-loop3 μ-loop3 Inv-loop μ-loop
+add-passed c = let w = c .before .before .before .before .before .before .before .loop3 in let g = goes-on (w .next) (w .passed) (c .before .before .before .before .before .before .loop3-test .taken) in search needs
 
 loop3-less : tie.Need-loop3-less Inv-loop2 μ-loop2 Inv-loop3 μ-loop3 Inv-loop μ-loop
-loop3-less c = let w = c .before .before .before .before .before .before .before .loop3 in let g = goes-on (w .next) (w .q) (c .before .before .before .before .before .before .loop3-test .taken) in search needs
+loop3-less c = let w = c .before .before .before .before .before .before .before .loop3 in let g = goes-on (w .next) (w .passed) (c .before .before .before .before .before .before .loop3-test .taken) in search needs
 
 loop3-again : tie.Need-loop3-again Inv-loop2 μ-loop2 Inv-loop3 μ-loop3 Inv-loop μ-loop
 unfolding at layoutAt
@@ -275,7 +274,7 @@ arrange-all-spec =
     past-child-requires
     mul-s-2
     array-copy-out-s-2
-    add-q
+    add-passed
     loop3-less
     loop3-again
     returns)

@@ -1,6 +1,6 @@
 -- The slots passed, and the order of what waits behind them, are the whole; the rest of a node's children goes behind the queue. Assumes nothing.
 use lib.Seq.{getD-take}
-use lib.ListN.{length, take, drop, getD}
+use lib.ListN.{take, drop, getD}
 use native.Mathlib.Omega.{arith}
 use Prim.Native.Nat.{ℕ, _-_, _≤_}
 use mathlib.Core.List.{List, [], _∷_, _++_}

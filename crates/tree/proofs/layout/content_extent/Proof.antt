@@ -1,6 +1,6 @@
 -- By how many children there are; a gap stands between each two. Assumes nothing.
 use lib.ListN.{length}
-use Prim.Native.Nat.{ℕ, _≤_, _<_}
+use Prim.Native.Nat.{_≤_, _<_}
 use native.Mathlib.Omega.{arith}
 use mathlib.Core.Path.{_≡_, sym, _∙_}
 use Rattle.tree.proofs.Contents.{content-of-few, content-of-many}

@@ -1,8 +1,8 @@
 -- The slots passed, from the last on, are measured; the index falls. Along a node's children what is left of the sum gives the whole. Assumes nothing.
 use lib.ListN.{take, drop, getD}
 use native.Mathlib.Omega.{arith}
-use Prim.Native.Nat.{_-_, _≤_, _<_}
-use mathlib.Core.List.{List, map}
+use Prim.Native.Nat.{_-_, _≤_}
+use mathlib.Core.List.{List}
 use mathlib.Core.Path.{_≡_, refl, _∙_, ap}
 use borrow.Author.Needs.{needs}
 use Rattle.tree.proofs.Passes.{measured-none, measured-more}
@@ -10,7 +10,7 @@ use Rattle.tree.proofs.PassSteps.{goes-on, slot-of, Summing, summing-mo
 use Rattle.tree.specs.declared.LayoutSlot.{LayoutSlot}
 use Rattle.tree.specs.Styles.{layoutAt}
 use Rattle.tree.specs.Slots.{kidsAt, at}
-use Rattle.tree.specs.Layout.{measureAll, measureAt, seen}
+use Rattle.tree.specs.Layout.{measureAll, measureAt}
 use Rattle.tree.proofs.layout.measure_all.Statement.{statement}
 use Rattle.tree.proofs.layout.measure_all.Tie as tie
 

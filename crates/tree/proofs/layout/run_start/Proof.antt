@@ -1,5 +1,5 @@
 -- The start by the alignment, and the room's cross length. Assumes nothing.
-use mathlib.Core.Path.{_≡_, _∙_, ap}
+use mathlib.Core.Path.{_∙_, ap}
 use mir.Facts.{toZ-ofZ}
 use Rattle.tree.proofs.Signs.{back, said}
 use Rattle.tree.specs.Layout.{Axes, offset}

@@ -1,12 +1,10 @@
 -- Without a plan every share is 0 and all is left free; a plan shares the whole leftover. Assumes nothing.
-use mathlib.Core.Bool.{true, false}
+use mathlib.Core.Bool.{false}
 use mathlib.Core.Path.{_≡_, sym, _∙_, ap}
-use lib.Dec.{ltb}
 use lib.IntN.{ℤ, pos}
 use lib.Signed.{leZ}
-use lib.ListN.{take}
 use mir.Facts.{toZ-ofZ}
-use Rattle.arithmetic.specs.Growth.{growSum, planGrowth}
+use Rattle.arithmetic.specs.Growth.{planGrowth}
 use Rattle.tree.proofs.Sharing.{no-plan-of-no-leftover, no-plan-of-no-grow, free-of-no-plan, free-of-plan}
 use borrow.Author.Needs.{needs}
 use Rattle.tree.proofs.layout.share_out.Statement.{statement}
