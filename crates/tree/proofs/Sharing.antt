@@ -1,4 +1,4 @@
--- The shares that the code asks for and sums are the definition's: zeros behind the grows change no share, no share past the
+-- The shares that the code asks for are the definition's: zeros behind the grows change no share, no share past the
 -- children is read, and where one grows the shares sum to the leftover. Assumes nothing.
 use mathlib.Core.Path.{_≡_, refl, sym, ap, _∙_, fun-ext}
 use mathlib.Core.Bool.{true, false, cond}

@@ -281,9 +281,10 @@ fn inner(d: Direction, p: Edges, rect: Rect) -> Lengths
 }
 
 // The corner of a node's content.
-fn content_corner(p: Edges, rect: Rect) -> Point
-    ensures { λ r. ⌜ (r .x ≡ addSat (rect .x) (p .left)) × (r .y ≡ addSat (rect .y) (p .top)) ⌝ }
+fn content_corner(style: Style, rect: Rect) -> Point
+    ensures { λ r. ⌜ (r .x ≡ addSat (rect .x) (style .padding .left)) × (r .y ≡ addSat (rect .y) (style .padding .top)) ⌝ }
 {
+    let p = style.padding;
     Point {
         x: scalar::saturating_add(rect.x, p.left),
         y: scalar::saturating_add(rect.y, p.top),
@@ -368,19 +369,17 @@ fn measure_all(
         let k = j as usize;
         let id = ids[k];
         let i = id as usize;
-        let node = slots[i];
         let l = out[i];
         let style = l.style;
         let d = style.direction;
         let mut sum = Lengths { main: 0, cross: 0 };
-        let mut child = node.first_child;
+        let mut child = slots[i].first_child;
         let mut n: u32 = 0;
         while (child < 128) & (n < 128) {
             let c = child as usize;
             let o = out[c];
             sum = with_child(sum, d, o);
-            let s = slots[c];
-            child = s.next_sibling;
+            child = slots[c].next_sibling;
             n = n + 1;
         }
         let e = want(style, sum, n);
@@ -406,8 +405,7 @@ fn arrange_all(
         let k = j as usize;
         let id = ids[k];
         let i = id as usize;
-        let node = slots[i];
-        let first = node.first_child;
+        let first = slots[i].first_child;
         j = j + 1;
         if first >= 128 {
             continue;
@@ -416,7 +414,6 @@ fn arrange_all(
         let style = l.style;
         let rect = l.rect;
         let d = style.direction;
-        let p = style.padding;
         let mut grows = [0u32; 128];
         let mut sum = Lengths { main: 0, cross: 0 };
         let mut child = first;
@@ -424,18 +421,16 @@ fn arrange_all(
         while (child < 128) & (n < 128) {
             let c = child as usize;
             let o = out[c];
-            let worn = o.style;
             let m = n as usize;
-            grows[m] = worn.grow;
+            grows[m] = o.style.grow;
             sum = with_child(sum, d, o);
-            let s = slots[c];
-            child = s.next_sibling;
+            child = slots[c].next_sibling;
             n = n + 1;
         }
         let leftover = leftover_of(style, rect, sum, n);
         let mut shares = [0i64; 128];
         let free = share_out(leftover, &grows, n, &mut shares);
-        let corner = content_corner(p, rect);
+        let corner = content_corner(style, rect);
         let mut at = run_start(style, rect, free);
         let mut next = first;
         let mut passed: u32 = 0;
@@ -447,8 +442,7 @@ fn arrange_all(
             let b = child_box(style, corner, at, growth, o);
             out[c] = with_rect(o, b);
             at = past_child(style, at, growth, o);
-            let s = slots[c];
-            next = s.next_sibling;
+            next = slots[c].next_sibling;
             passed = passed + 1;
         }
     }
@@ -472,15 +466,13 @@ fn collect_order(slots: [Slot; 128]) -> Order
         let k = at as usize;
         let id = ids[k];
         let i = id as usize;
-        let node = slots[i];
-        let mut child = node.first_child;
+        let mut child = slots[i].first_child;
         while (child < 128) & (count < 128) {
             let n = count as usize;
             ids[n] = child;
             count = count + 1;
             let c = child as usize;
-            let s = slots[c];
-            child = s.next_sibling;
+            child = slots[c].next_sibling;
         }
         at = at + 1;
     }

@@ -18,10 +18,10 @@ use Rattle.tree.proofs.layout.arrange_all.Statement.{statement}
 use Rattle.tree.proofs.layout.arrange_all.Tie as tie
 
 abbrev Inv-loop2 : tie.InvT-loop2
-Inv-loop2 count slots ids out j k id i first style rect d p grows₀ sum₀ child₀ n₀ grows sum child n = Gathering slots out d first grows sum child n
+Inv-loop2 count slots ids out j k id i first style rect d grows₀ sum₀ child₀ n₀ grows sum child n = Gathering slots out d first grows sum child n
 
 abbrev μ-loop2 : tie.MeasureT-loop2
-μ-loop2 count slots ids out j k id i first style rect d p grows₀ sum₀ child₀ n₀ grows sum child n = 128 - n
+μ-loop2 count slots ids out j k id i first style rect d grows₀ sum₀ child₀ n₀ grows sum child n = 128 - n
 
 abbrev Inv-loop3 : tie.InvT-loop3
 Inv-loop3 count slots ids out₀ j k id i first style child n leftover shares free corner at₀ next₀ passed₀ out at next passed = Boxing slots out₀ style (corner .x) (corner .y) shares first at₀ out at next passed
@@ -51,12 +51,12 @@ array-read-id c = search needs
 cast-i : tie.Need-cast-i Inv-loop2 μ-loop2 Inv-loop3 μ-loop3 Inv-loop μ-loop
 cast-i c = search needs
 
-mul-node : tie.Need-mul-node Inv-loop2 μ-loop2 Inv-loop3 μ-loop3 Inv-loop μ-loop
-mul-node c = let l = c .before .loop in let b = slot-of (c .before .before .args .count) (c .before .before .args .t3) (l .j) (c .loop-test .taken) (c .before .before .pre .1) in search needs
+mul-first : tie.Need-mul-first Inv-loop2 μ-loop2 Inv-loop3 μ-loop3 Inv-loop μ-loop
+mul-first c = let l = c .before .loop in let b = slot-of (c .before .before .args .count) (c .before .before .args .t3) (l .j) (c .loop-test .taken) (c .before .before .pre .1) in search needs
 
-array-copy-out-node :
-    tie.Need-array-copy-out-node Inv-loop2 μ-loop2 Inv-loop3 μ-loop3 Inv-loop μ-loop
-array-copy-out-node c = let l = c .before .loop in let b = slot-of (c .before .before .args .count) (c .before .before .args .t3) (l .j) (c .loop-test .taken) (c .before .before .pre .1) in search needs
+element-copy-out-first :
+    tie.Need-element-copy-out-first Inv-loop2 μ-loop2 Inv-loop3 μ-loop3 Inv-loop μ-loop
+element-copy-out-first c = let l = c .before .loop in let b = slot-of (c .before .before .args .count) (c .before .before .args .t3) (l .j) (c .loop-test .taken) (c .before .before .pre .1) in search needs
 
 add-j : tie.Need-add-j Inv-loop2 μ-loop2 Inv-loop3 μ-loop3 Inv-loop μ-loop
 add-j c = search needs
@@ -66,18 +66,18 @@ loop-less c = search needs
 
 loop-again : tie.Need-loop-again Inv-loop2 μ-loop2 Inv-loop3 μ-loop3 Inv-loop μ-loop
 unfolding at
-loop-again c = let l = c .before .before .before .loop in let a = c .before .before .before .before .args in (
+loop-again c = let l = c .before .before .loop in let a = c .before .before .before .args in (
   ap (λ (x : List LayoutSlot). arrangeAll (a .t1) x (drop (l .j + 1) (take (a .count) (a .t3)))) (arranged-leaf (a .t1) (l .out) (getD (a .t3) (l .j) 0) (c .if1 .taken))
-      ∙ arranged-more (a .t1) (l .out) (l .j) (a .count) (a .t3) (c .before .before .loop-test .taken) (omega (arith, c .before .before .loop-test .taken, c .before .before .before .before .pre .0, c .before .before .before .before .good .1 .1 .0 .1 .0 .1))
+      ∙ arranged-more (a .t1) (l .out) (l .j) (a .count) (a .t3) (c .before .loop-test .taken) (omega (arith, c .before .loop-test .taken, c .before .before .before .pre .0, c .before .before .before .good .1 .1 .0 .1 .0 .1))
       ∙ l .inv .0,
   omega arith,
 )
 
 mul-l : tie.Need-mul-l Inv-loop2 μ-loop2 Inv-loop3 μ-loop3 Inv-loop μ-loop
-mul-l c = let l = c .before .before .before .loop in let b = slot-of (c .before .before .before .before .args .count) (c .before .before .before .before .args .t3) (l .j) (c .before .before .loop-test .taken) (c .before .before .before .before .pre .1) in search needs
+mul-l c = let l = c .before .before .loop in let b = slot-of (c .before .before .before .args .count) (c .before .before .before .args .t3) (l .j) (c .before .loop-test .taken) (c .before .before .before .pre .1) in search needs
 
 array-copy-out-l : tie.Need-array-copy-out-l Inv-loop2 μ-loop2 Inv-loop3 μ-loop3 Inv-loop μ-loop
-array-copy-out-l c = let l = c .before .before .before .loop in let b = slot-of (c .before .before .before .before .args .count) (c .before .before .before .before .args .t3) (l .j) (c .before .before .loop-test .taken) (c .before .before .before .before .pre .1) in search needs
+array-copy-out-l c = let l = c .before .before .loop in let b = slot-of (c .before .before .before .args .count) (c .before .before .before .args .t3) (l .j) (c .before .loop-test .taken) (c .before .before .before .pre .1) in search needs
 
 loop2-holds : tie.Need-loop2-holds Inv-loop2 μ-loop2 Inv-loop3 μ-loop3 Inv-loop μ-loop
 unfolding noGrows
@@ -93,33 +93,34 @@ array-copy-out-o : tie.Need-array-copy-out-o Inv-loop2 μ-loop2 Inv-loop3 μ-loo
 array-copy-out-o c = let w = c .before .loop2 in let g = goes-on (w .child) (w .n) (c .loop2-test .taken) in search needs
 
 cast-m : tie.Need-cast-m Inv-loop2 μ-loop2 Inv-loop3 μ-loop3 Inv-loop μ-loop
-cast-m c = let w = c .before .before .before .loop2 in let g = goes-on (w .child) (w .n) (c .before .before .loop2-test .taken) in search needs
+cast-m c = let w = c .before .before .loop2 in let g = goes-on (w .child) (w .n) (c .before .loop2-test .taken) in search needs
 
 mul-grows : tie.Need-mul-grows Inv-loop2 μ-loop2 Inv-loop3 μ-loop3 Inv-loop μ-loop
-mul-grows c = let w = c .before .before .before .loop2 in let g = goes-on (w .child) (w .n) (c .before .before .loop2-test .taken) in search needs
+mul-grows c = let w = c .before .before .loop2 in let g = goes-on (w .child) (w .n) (c .before .loop2-test .taken) in search needs
 
 array-write-grows : tie.Need-array-write-grows Inv-loop2 μ-loop2 Inv-loop3 μ-loop3 Inv-loop μ-loop
-array-write-grows c = let w = c .before .before .before .loop2 in let g = goes-on (w .child) (w .n) (c .before .before .loop2-test .taken) in search needs
+array-write-grows c = let w = c .before .before .loop2 in let g = goes-on (w .child) (w .n) (c .before .loop2-test .taken) in search needs
 
 with-child-requires :
     tie.Need-with-child-requires Inv-loop2 μ-loop2 Inv-loop3 μ-loop3 Inv-loop μ-loop
 with-child-requires c κs = search needs
 
-mul-s : tie.Need-mul-s Inv-loop2 μ-loop2 Inv-loop3 μ-loop3 Inv-loop μ-loop
-mul-s c = let w = c .before .before .before .before .loop2 in let g = goes-on (w .child) (w .n) (c .before .before .before .loop2-test .taken) in search needs
+mul-child : tie.Need-mul-child Inv-loop2 μ-loop2 Inv-loop3 μ-loop3 Inv-loop μ-loop
+mul-child c = let w = c .before .before .before .loop2 in let g = goes-on (w .child) (w .n) (c .before .before .loop2-test .taken) in search needs
 
-array-copy-out-s : tie.Need-array-copy-out-s Inv-loop2 μ-loop2 Inv-loop3 μ-loop3 Inv-loop μ-loop
-array-copy-out-s c = let w = c .before .before .before .before .loop2 in let g = goes-on (w .child) (w .n) (c .before .before .before .loop2-test .taken) in search needs
+element-copy-out-child :
+    tie.Need-element-copy-out-child Inv-loop2 μ-loop2 Inv-loop3 μ-loop3 Inv-loop μ-loop
+element-copy-out-child c = let w = c .before .before .before .loop2 in let g = goes-on (w .child) (w .n) (c .before .before .loop2-test .taken) in search needs
 
 add-n : tie.Need-add-n Inv-loop2 μ-loop2 Inv-loop3 μ-loop3 Inv-loop μ-loop
-add-n c = let w = c .before .before .before .before .before .loop2 in let g = goes-on (w .child) (w .n) (c .before .before .before .before .loop2-test .taken) in search needs
+add-n c = let w = c .before .before .before .loop2 in let g = goes-on (w .child) (w .n) (c .before .before .loop2-test .taken) in search needs
 
 loop2-less : tie.Need-loop2-less Inv-loop2 μ-loop2 Inv-loop3 μ-loop3 Inv-loop μ-loop
-loop2-less c = let w = c .before .before .before .before .before .loop2 in let g = goes-on (w .child) (w .n) (c .before .before .before .before .loop2-test .taken) in search needs
+loop2-less c = let w = c .before .before .before .loop2 in let g = goes-on (w .child) (w .n) (c .before .before .loop2-test .taken) in search needs
 
 loop2-again : tie.Need-loop2-again Inv-loop2 μ-loop2 Inv-loop3 μ-loop3 Inv-loop μ-loop
 unfolding at layoutAt
-loop2-again c = gathering-more (c .before .before .before .before .before .loop2 .inv) (c .before .before .before .before .loop2-test .taken) (c .before .with-child .ensures)
+loop2-again c = gathering-more (c .before .before .before .loop2 .inv) (c .before .before .loop2-test .taken) (c .with-child .ensures)
 
 leftover-of-requires :
     tie.Need-leftover-of-requires Inv-loop2 μ-loop2 Inv-loop3 μ-loop3 Inv-loop μ-loop
@@ -146,7 +147,7 @@ loop-less-2 c = search needs
 
 loop-again-2 : tie.Need-loop-again-2 Inv-loop2 μ-loop2 Inv-loop3 μ-loop3 Inv-loop μ-loop
 unfolding kidsAt at layoutAt
-loop-again-2 c = let l = c .before .before .before .before .before .before .before .before .before .before .before .before .before .before .before .before .before .loop in let a = c .before .before .before .before .before .before .before .before .before .before .before .before .before .before .before .before .before .before .args in let w = c .before .before .before .before .before .before .before .before .before .loop2 in let v = c .before .loop3 in
+loop-again-2 c = let l = c .before .before .before .before .before .before .before .before .before .before .before .before .before .before .before .loop in let a = c .before .before .before .before .before .before .before .before .before .before .before .before .before .before .before .before .args in let w = c .before .before .before .before .before .before .before .before .before .loop2 in let v = c .before .loop3 in
     let i : ℕ = getD (a .t3) (l .j) 0 in
     let cs : List Child = map (seen (l .out)) (kidsAt (a .t1) i) in
     let style = layoutAt (l .out) i .style in
@@ -154,9 +155,9 @@ loop-again-2 c = let l = c .before .before .before .before .before .before .befo
     let left = c .before .before .before .before .before .before .before .leftover-of in let out = c .before .before .before .before .share-out in let run = c .before .before .run-start in let corner = c .before .before .before .content-corner in
     let placed = placed-by-parts style (layoutAt (l .out) i .rect) cs _ _ _ _ _ _ _ _ _ (omega (arith, sums .1, w .inv .summing .most)) (sums .1) (gathering-done (w .inv) (c .before .before .before .before .before .before .before .before .loop2-test .left)) (corner .ensures .0) (corner .ensures .1) (run .ensures .1) (said (left .result) (left .ok) (left .ensures cs sums)) (out .ensures .shared) (out .ensures .rest) (run .ensures .0 ∙ ap (offset (style .justify)) (back (out .result) (out .ok))) in (
       ap (λ (x : List LayoutSlot). arrangeAll (a .t1) x (drop (l .j + 1) (take (a .count) (a .t3)))) (arranged (a .t1) (l .out) (v .out) i _ (boxing-done (v .inv) (c .loop3-test .left)) placed)
-          ∙ arranged-more (a .t1) (l .out) (l .j) (a .count) (a .t3) (c .before .before .before .before .before .before .before .before .before .before .before .before .before .before .before .before .loop-test .taken) (omega (arith, c .before .before .before .before .before .before .before .before .before .before .before .before .before .before .before .before .loop-test .taken, c .before .before .before .before .before .before .before .before .before .before .before .before .before .before .before .before .before .before .pre .0, c .before .before .before .before .before .before .before .before .before .before .before .before .before .before .before .before .before .before .good .1 .1 .0 .1 .0 .1))
+          ∙ arranged-more (a .t1) (l .out) (l .j) (a .count) (a .t3) (c .before .before .before .before .before .before .before .before .before .before .before .before .before .before .loop-test .taken) (omega (arith, c .before .before .before .before .before .before .before .before .before .before .before .before .before .before .loop-test .taken, c .before .before .before .before .before .before .before .before .before .before .before .before .before .before .before .before .pre .0, c .before .before .before .before .before .before .before .before .before .before .before .before .before .before .before .before .good .1 .1 .0 .1 .0 .1))
           ∙ l .inv .0,
-      omega (arith, c .before .before .before .before .before .before .before .before .before .before .before .before .before .before .before .before .loop-test .taken),
+      omega (arith, c .before .before .before .before .before .before .before .before .before .before .before .before .before .before .loop-test .taken),
     )
 
 cast-c-2 : tie.Need-cast-c-2 Inv-loop2 μ-loop2 Inv-loop3 μ-loop3 Inv-loop μ-loop
@@ -198,22 +199,22 @@ past-child-requires :
     tie.Need-past-child-requires Inv-loop2 μ-loop2 Inv-loop3 μ-loop3 Inv-loop μ-loop
 past-child-requires c κs = search needs
 
-mul-s-2 : tie.Need-mul-s-2 Inv-loop2 μ-loop2 Inv-loop3 μ-loop3 Inv-loop μ-loop
-mul-s-2 c = let w = c .before .before .before .before .before .before .loop3 in let g = goes-on (w .next) (w .passed) (c .before .before .before .before .before .loop3-test .taken) in search needs
+mul-next : tie.Need-mul-next Inv-loop2 μ-loop2 Inv-loop3 μ-loop3 Inv-loop μ-loop
+mul-next c = let w = c .before .before .before .before .before .before .loop3 in let g = goes-on (w .next) (w .passed) (c .before .before .before .before .before .loop3-test .taken) in search needs
 
-array-copy-out-s-2 :
-    tie.Need-array-copy-out-s-2 Inv-loop2 μ-loop2 Inv-loop3 μ-loop3 Inv-loop μ-loop
-array-copy-out-s-2 c = let w = c .before .before .before .before .before .before .loop3 in let g = goes-on (w .next) (w .passed) (c .before .before .before .before .before .loop3-test .taken) in search needs
+element-copy-out-next :
+    tie.Need-element-copy-out-next Inv-loop2 μ-loop2 Inv-loop3 μ-loop3 Inv-loop μ-loop
+element-copy-out-next c = let w = c .before .before .before .before .before .before .loop3 in let g = goes-on (w .next) (w .passed) (c .before .before .before .before .before .loop3-test .taken) in search needs
 
 add-passed : tie.Need-add-passed Inv-loop2 μ-loop2 Inv-loop3 μ-loop3 Inv-loop μ-loop
-add-passed c = let w = c .before .before .before .before .before .before .before .loop3 in let g = goes-on (w .next) (w .passed) (c .before .before .before .before .before .before .loop3-test .taken) in search needs
+add-passed c = let w = c .before .before .before .before .before .before .loop3 in let g = goes-on (w .next) (w .passed) (c .before .before .before .before .before .loop3-test .taken) in search needs
 
 loop3-less : tie.Need-loop3-less Inv-loop2 μ-loop2 Inv-loop3 μ-loop3 Inv-loop μ-loop
-loop3-less c = let w = c .before .before .before .before .before .before .before .loop3 in let g = goes-on (w .next) (w .passed) (c .before .before .before .before .before .before .loop3-test .taken) in search needs
+loop3-less c = let w = c .before .before .before .before .before .before .loop3 in let g = goes-on (w .next) (w .passed) (c .before .before .before .before .before .loop3-test .taken) in search needs
 
 loop3-again : tie.Need-loop3-again Inv-loop2 μ-loop2 Inv-loop3 μ-loop3 Inv-loop μ-loop
 unfolding at layoutAt
-loop3-again c = boxing-more (c .before .before .before .before .before .before .before .loop3 .inv) (c .before .before .before .before .before .before .loop3-test .taken) (back _ (c .before .before .before .before .growth .given)) (c .before .before .before .child-box .ensures) (c .before .before .with-rect .ensures) (c .before .past-child .ensures .0) (c .before .past-child .ensures .1)
+loop3-again c = boxing-more (c .before .before .before .before .before .before .loop3 .inv) (c .before .before .before .before .before .loop3-test .taken) (back _ (c .before .before .before .growth .given)) (c .before .before .child-box .ensures) (c .before .with-rect .ensures) (c .past-child .ensures .0) (c .past-child .ensures .1)
 
 returns : tie.Need-returns Inv-loop2 μ-loop2 Inv-loop3 μ-loop3 Inv-loop μ-loop
 returns c = let l = c .before .loop in let a = c .before .before .args in
@@ -234,8 +235,8 @@ arrange-all-spec =
     mul-id
     array-read-id
     cast-i
-    mul-node
-    array-copy-out-node
+    mul-first
+    element-copy-out-first
     add-j
     loop-less
     loop-again
@@ -249,8 +250,8 @@ arrange-all-spec =
     mul-grows
     array-write-grows
     with-child-requires
-    mul-s
-    array-copy-out-s
+    mul-child
+    element-copy-out-child
     add-n
     loop2-less
     loop2-again
@@ -272,8 +273,8 @@ arrange-all-spec =
     mul-out
     array-set-from-out
     past-child-requires
-    mul-s-2
-    array-copy-out-s-2
+    mul-next
+    element-copy-out-next
     add-passed
     loop3-less
     loop3-again

@@ -42,14 +42,14 @@ array-read-id c = search needs
 cast-i : tie.Need-cast-i Inv-loop2 μ-loop2 Inv-loop μ-loop
 cast-i c = let b = c .before .loop .inv .0 .slotted (c .before .loop .at) in search needs
 
-mul-node : tie.Need-mul-node Inv-loop2 μ-loop2 Inv-loop μ-loop
-mul-node c = let b = c .before .loop .inv .0 .slotted (c .before .loop .at) in search needs
+mul-child : tie.Need-mul-child Inv-loop2 μ-loop2 Inv-loop μ-loop
+mul-child c = let b = c .before .loop .inv .0 .slotted (c .before .loop .at) in search needs
 
-array-copy-out-node : tie.Need-array-copy-out-node Inv-loop2 μ-loop2 Inv-loop μ-loop
-array-copy-out-node c = let b = c .before .loop .inv .0 .slotted (c .before .loop .at) in search needs
+element-copy-out-child : tie.Need-element-copy-out-child Inv-loop2 μ-loop2 Inv-loop μ-loop
+element-copy-out-child c = let b = c .before .loop .inv .0 .slotted (c .before .loop .at) in search needs
 
 loop2-holds : tie.Need-loop2-holds Inv-loop2 μ-loop2 Inv-loop μ-loop
-loop2-holds c = pushing-start (c .before .before .before .args .t1) (c .before .before .loop .ids) (c .before .before .loop .count) _ (c .before .before .loop .inv .0)
+loop2-holds c = pushing-start (c .before .before .args .t1) (c .before .loop .ids) (c .before .loop .count) _ (c .before .loop .inv .0)
 
 cast-n : tie.Need-cast-n Inv-loop2 μ-loop2 Inv-loop μ-loop
 cast-n c = let w = c .before .loop2 in let g = goes-on (w .child) (w .count) (c .loop2-test .taken) in search needs
@@ -66,18 +66,18 @@ add-count c = let w = c .before .loop2 in let g = goes-on (w .child) (w .count) 
 cast-c : tie.Need-cast-c Inv-loop2 μ-loop2 Inv-loop μ-loop
 cast-c c = let w = c .before .loop2 in let g = goes-on (w .child) (w .count) (c .loop2-test .taken) in search needs
 
-mul-s : tie.Need-mul-s Inv-loop2 μ-loop2 Inv-loop μ-loop
-mul-s c = let w = c .before .loop2 in let g = goes-on (w .child) (w .count) (c .loop2-test .taken) in search needs
+mul-child-2 : tie.Need-mul-child-2 Inv-loop2 μ-loop2 Inv-loop μ-loop
+mul-child-2 c = let w = c .before .loop2 in let g = goes-on (w .child) (w .count) (c .loop2-test .taken) in search needs
 
-array-copy-out-s : tie.Need-array-copy-out-s Inv-loop2 μ-loop2 Inv-loop μ-loop
-array-copy-out-s c = let w = c .before .loop2 in let g = goes-on (w .child) (w .count) (c .loop2-test .taken) in search needs
+element-copy-out-child-2 : tie.Need-element-copy-out-child-2 Inv-loop2 μ-loop2 Inv-loop μ-loop
+element-copy-out-child-2 c = let w = c .before .loop2 in let g = goes-on (w .child) (w .count) (c .loop2-test .taken) in search needs
 
 loop2-less : tie.Need-loop2-less Inv-loop2 μ-loop2 Inv-loop μ-loop
-loop2-less c = let w = c .before .before .loop2 in let g = goes-on (w .child) (w .count) (c .before .loop2-test .taken) in search needs
+loop2-less c = let w = c .before .loop2 in let g = goes-on (w .child) (w .count) (c .loop2-test .taken) in search needs
 
 loop2-again : tie.Need-loop2-again Inv-loop2 μ-loop2 Inv-loop μ-loop
 unfolding at
-loop2-again c = pushing-more (c .before .before .loop2 .inv) (c .before .loop2-test .taken)
+loop2-again c = pushing-more (c .before .loop2 .inv) (c .loop2-test .taken)
 
 add-at : tie.Need-add-at Inv-loop2 μ-loop2 Inv-loop μ-loop
 add-at c = search needs
@@ -87,8 +87,8 @@ loop-less c = search needs
 
 loop-again : tie.Need-loop-again Inv-loop2 μ-loop2 Inv-loop μ-loop
 unfolding kidsAt at
-loop-again c = let l = c .before .before .before .before .loop in let w = c .before .loop2 in let s = c .before .before .before .before .before .args .t1 in
-    let below = c .before .before .before .loop-test .taken in
+loop-again c = let l = c .before .before .before .loop in let w = c .before .loop2 in let s = c .before .before .before .before .args .t1 in
+    let below = c .before .before .loop-test .taken in
     let q : List ℕ = take (l .count) (l .ids) in
     let size = placed-count (l .count) (l .ids) (l .inv .0 .room) (l .inv .0 .full) in
     let read : getD q (l .at) 0 ≡ getD (l .ids) (l .at) 0 = getD-take (l .count) (l .ids) (l .at) 0 below in (
@@ -118,16 +118,16 @@ collect-order-spec =
     mul-id
     array-read-id
     cast-i
-    mul-node
-    array-copy-out-node
+    mul-child
+    element-copy-out-child
     loop2-holds
     cast-n
     mul-ids
     array-write-ids
     add-count
     cast-c
-    mul-s
-    array-copy-out-s
+    mul-child-2
+    element-copy-out-child-2
     loop2-less
     loop2-again
     add-at

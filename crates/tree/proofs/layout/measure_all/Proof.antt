@@ -44,17 +44,17 @@ array-read-id c = search needs
 cast-i : tie.Need-cast-i Inv-loop2 μ-loop2 Inv-loop μ-loop
 cast-i c = search needs
 
-mul-node : tie.Need-mul-node Inv-loop2 μ-loop2 Inv-loop μ-loop
-mul-node c = let l = c .before .loop in let b = slot-of (c .before .before .args .count) (c .before .before .args .t3) (l .j - 1) (omega (arith, c .loop-test .taken, l .inv .1)) (c .before .before .pre .1) in search needs
-
-array-copy-out-node : tie.Need-array-copy-out-node Inv-loop2 μ-loop2 Inv-loop μ-loop
-array-copy-out-node c = let l = c .before .loop in let b = slot-of (c .before .before .args .count) (c .before .before .args .t3) (l .j - 1) (omega (arith, c .loop-test .taken, l .inv .1)) (c .before .before .pre .1) in search needs
-
 mul-l : tie.Need-mul-l Inv-loop2 μ-loop2 Inv-loop μ-loop
-mul-l c = let l = c .before .before .loop in let b = slot-of (c .before .before .before .args .count) (c .before .before .before .args .t3) (l .j - 1) (omega (arith, c .before .loop-test .taken, l .inv .1)) (c .before .before .before .pre .1) in search needs
+mul-l c = let l = c .before .loop in let b = slot-of (c .before .before .args .count) (c .before .before .args .t3) (l .j - 1) (omega (arith, c .loop-test .taken, l .inv .1)) (c .before .before .pre .1) in search needs
 
 array-copy-out-l : tie.Need-array-copy-out-l Inv-loop2 μ-loop2 Inv-loop μ-loop
-array-copy-out-l c = let l = c .before .before .loop in let b = slot-of (c .before .before .before .args .count) (c .before .before .before .args .t3) (l .j - 1) (omega (arith, c .before .loop-test .taken, l .inv .1)) (c .before .before .before .pre .1) in search needs
+array-copy-out-l c = let l = c .before .loop in let b = slot-of (c .before .before .args .count) (c .before .before .args .t3) (l .j - 1) (omega (arith, c .loop-test .taken, l .inv .1)) (c .before .before .pre .1) in search needs
+
+mul-child : tie.Need-mul-child Inv-loop2 μ-loop2 Inv-loop μ-loop
+mul-child c = let l = c .before .before .before .loop in let b = slot-of (c .before .before .before .before .args .count) (c .before .before .before .before .args .t3) (l .j - 1) (omega (arith, c .before .before .loop-test .taken, l .inv .1)) (c .before .before .before .before .pre .1) in search needs
+
+element-copy-out-child : tie.Need-element-copy-out-child Inv-loop2 μ-loop2 Inv-loop μ-loop
+element-copy-out-child c = let l = c .before .before .before .loop in let b = slot-of (c .before .before .before .before .args .count) (c .before .before .before .before .args .t3) (l .j - 1) (omega (arith, c .before .before .loop-test .taken, l .inv .1)) (c .before .before .before .before .pre .1) in search needs
 
 loop2-holds : tie.Need-loop2-holds Inv-loop2 μ-loop2 Inv-loop μ-loop
 loop2-holds c = record { most = omega arith; counts = omega arith; sums = refl }
@@ -71,21 +71,21 @@ array-copy-out-o c = let w = c .before .loop2 in let g = goes-on (w .child) (w .
 with-child-requires : tie.Need-with-child-requires Inv-loop2 μ-loop2 Inv-loop μ-loop
 with-child-requires c κs = search needs
 
-mul-s : tie.Need-mul-s Inv-loop2 μ-loop2 Inv-loop μ-loop
-mul-s c = let w = c .before .before .before .loop2 in let g = goes-on (w .child) (w .n) (c .before .before .loop2-test .taken) in search needs
+mul-child-2 : tie.Need-mul-child-2 Inv-loop2 μ-loop2 Inv-loop μ-loop
+mul-child-2 c = let w = c .before .before .before .loop2 in let g = goes-on (w .child) (w .n) (c .before .before .loop2-test .taken) in search needs
 
-array-copy-out-s : tie.Need-array-copy-out-s Inv-loop2 μ-loop2 Inv-loop μ-loop
-array-copy-out-s c = let w = c .before .before .before .loop2 in let g = goes-on (w .child) (w .n) (c .before .before .loop2-test .taken) in search needs
+element-copy-out-child-2 : tie.Need-element-copy-out-child-2 Inv-loop2 μ-loop2 Inv-loop μ-loop
+element-copy-out-child-2 c = let w = c .before .before .before .loop2 in let g = goes-on (w .child) (w .n) (c .before .before .loop2-test .taken) in search needs
 
 add-n : tie.Need-add-n Inv-loop2 μ-loop2 Inv-loop μ-loop
-add-n c = let w = c .before .before .before .before .loop2 in let g = goes-on (w .child) (w .n) (c .before .before .before .loop2-test .taken) in search needs
+add-n c = let w = c .before .before .before .loop2 in let g = goes-on (w .child) (w .n) (c .before .before .loop2-test .taken) in search needs
 
 loop2-less : tie.Need-loop2-less Inv-loop2 μ-loop2 Inv-loop μ-loop
-loop2-less c = let w = c .before .before .before .before .loop2 in let g = goes-on (w .child) (w .n) (c .before .before .before .loop2-test .taken) in search needs
+loop2-less c = let w = c .before .before .before .loop2 in let g = goes-on (w .child) (w .n) (c .before .before .loop2-test .taken) in search needs
 
 loop2-again : tie.Need-loop2-again Inv-loop2 μ-loop2 Inv-loop μ-loop
 unfolding at layoutAt
-loop2-again c = summing-more (c .before .before .before .before .loop2 .inv) (c .before .before .before .loop2-test .taken) (c .before .with-child .ensures)
+loop2-again c = summing-more (c .before .before .before .loop2 .inv) (c .before .before .loop2-test .taken) (c .with-child .ensures)
 
 want-requires : tie.Need-want-requires Inv-loop2 μ-loop2 Inv-loop μ-loop
 want-requires c κs = search needs
@@ -94,21 +94,21 @@ with-wants-requires : tie.Need-with-wants-requires Inv-loop2 μ-loop2 Inv-loop �
 with-wants-requires c κs = search needs
 
 mul-out : tie.Need-mul-out Inv-loop2 μ-loop2 Inv-loop μ-loop
-mul-out c = let l = c .before .before .before .before .before .before .before .before .loop in let b = slot-of (c .before .before .before .before .before .before .before .before .before .args .count) (c .before .before .before .before .before .before .before .before .before .args .t3) (l .j - 1) (omega (arith, c .before .before .before .before .before .before .before .loop-test .taken, l .inv .1)) (c .before .before .before .before .before .before .before .before .before .pre .1) in search needs
+mul-out c = let l = c .before .before .before .before .before .before .before .loop in let b = slot-of (c .before .before .before .before .before .before .before .before .args .count) (c .before .before .before .before .before .before .before .before .args .t3) (l .j - 1) (omega (arith, c .before .before .before .before .before .before .loop-test .taken, l .inv .1)) (c .before .before .before .before .before .before .before .before .pre .1) in search needs
 
 array-set-from-out : tie.Need-array-set-from-out Inv-loop2 μ-loop2 Inv-loop μ-loop
-array-set-from-out c = let l = c .before .before .before .before .before .before .before .before .loop in let b = slot-of (c .before .before .before .before .before .before .before .before .before .args .count) (c .before .before .before .before .before .before .before .before .before .args .t3) (l .j - 1) (omega (arith, c .before .before .before .before .before .before .before .loop-test .taken, l .inv .1)) (c .before .before .before .before .before .before .before .before .before .pre .1) in search needs
+array-set-from-out c = let l = c .before .before .before .before .before .before .before .loop in let b = slot-of (c .before .before .before .before .before .before .before .before .args .count) (c .before .before .before .before .before .before .before .before .args .t3) (l .j - 1) (omega (arith, c .before .before .before .before .before .before .loop-test .taken, l .inv .1)) (c .before .before .before .before .before .before .before .before .pre .1) in search needs
 
 loop-less : tie.Need-loop-less Inv-loop2 μ-loop2 Inv-loop μ-loop
 loop-less c = search needs
 
 loop-again : tie.Need-loop-again Inv-loop2 μ-loop2 Inv-loop μ-loop
 unfolding kidsAt at layoutAt
-loop-again c = let l = c .before .before .before .before .before .before .before .before .loop in let a = c .before .before .before .before .before .before .before .before .before .args in
+loop-again c = let l = c .before .before .before .before .before .before .before .loop in let a = c .before .before .before .before .before .before .before .before .args in
     let sums = summing-done (layoutAt (l .out) (getD (a .t3) (l .j - 1) 0) .style) refl (c .before .before .before .loop2 .inv) (c .before .before .loop2-test .left) in (
       measured (a .t1) (l .out) (getD (a .t3) (l .j - 1) 0) (c .with-wants .result) _ (c .with-wants .ensures) (c .before .want .ensures _ sums)
           ∙ ap (λ (x : List LayoutSlot). measureAt (a .t1) x (getD (a .t3) (l .j - 1) 0)) (l .inv .0)
-          ∙ measured-more (a .t1) (a .layout) (l .j) (a .count) (a .t3) (omega (arith, c .before .before .before .before .before .before .before .loop-test .taken)) (omega (arith, l .inv .1)) (omega (arith, l .inv .1, c .before .before .before .before .before .before .before .before .before .pre .0, c .before .before .before .before .before .before .before .before .before .good .1 .1 .0 .1 .0 .1)),
+          ∙ measured-more (a .t1) (a .layout) (l .j) (a .count) (a .t3) (omega (arith, c .before .before .before .before .before .before .loop-test .taken)) (omega (arith, l .inv .1)) (omega (arith, l .inv .1, c .before .before .before .before .before .before .before .before .pre .0, c .before .before .before .before .before .before .before .before .good .1 .1 .0 .1 .0 .1)),
       omega (arith, l .inv .1),
     )
 
@@ -130,17 +130,17 @@ measure-all-spec =
     mul-id
     array-read-id
     cast-i
-    mul-node
-    array-copy-out-node
     mul-l
     array-copy-out-l
+    mul-child
+    element-copy-out-child
     loop2-holds
     cast-c
     mul-o
     array-copy-out-o
     with-child-requires
-    mul-s
-    array-copy-out-s
+    mul-child-2
+    element-copy-out-child-2
     add-n
     loop2-less
     loop2-again
