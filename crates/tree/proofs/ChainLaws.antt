@@ -1,13 +1,9 @@
 -- One step along a chain of siblings. Assumes nothing.
 use mathlib.Core.Path.{_≡_, refl}
-use mathlib.Core.List.{List, [], _∷_}
+use mathlib.Core.List.{[], _∷_}
 use Prim.Native.Nat.{ℕ, zero, suc, _-_, _≤_, _<_}
 use native.Mathlib.Omega.{arith}
 use borrow.Author.Tests.{lt-ltb, le-ltb}
-use lib.Dec.{ltb}
-use lib.ListN.{length}
-use mathlib.Core.Bool.{Bool, true, false}
-use Rattle.tree.specs.Tests.{pick}
 use Rattle.tree.specs.Slots.{Slots, at, chain}
 
 pub chain-none : (s : Slots) (n p : ℕ) → 128 ≤ p → chain n s p ≡ []
@@ -23,12 +19,3 @@ pub chain-more : (s : Slots) (n p : ℕ) → (n ≡ 0 → ⊥) → p < 128 → c
 unfolding chain
 chain-more s zero p h i = absurd (h refl)
 chain-more s (suc n) p h i = let e : suc n - 1 ≡ n = omega arith in rw (lt-ltb p 128 i, e)
-
-pub chain-length : (s : Slots) (n p : ℕ) → length (chain n s p) ≤ n
-unfolding chain
-chain-length s zero p = omega arith
-chain-length s (suc n) p = by (ltb p 128) (chain n s (at s p .«next_sibling»)) (chain-length s n (at s p .«next_sibling»))
-  where
-    by : (b : Bool) (r : List ℕ) → length r ≤ n → length (pick b (p ∷ r) []) ≤ suc n
-    by true r h = omega arith
-    by false r h = omega arith

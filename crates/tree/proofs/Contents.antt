@@ -1,14 +1,13 @@
 -- The extent of some children, by how many they are. Assumes nothing.
 use mathlib.Core.Path.{_≡_, refl}
 use mathlib.Core.List.{List, [], _∷_}
-use Prim.Native.Nat.{ℕ, suc, _-_, _≤_, _<_}
+use Prim.Native.Nat.{suc, _-_, _≤_, _<_}
 use native.Mathlib.Omega.{arith}
 use lib.ListN.{length}
 use Rattle.arithmetic.specs.Scalar.{addSat, gapTimes}
 use lib.IntN.{ℤ}
-use Rattle.tree.specs.Layout.{Axes, Child, summed, content, extent, boxed}
+use Rattle.tree.specs.Layout.{Child, summed, content, extent, boxed}
 use Rattle.tree.specs.Views.{noAxes, grownOf}
-use Rattle.tree.specs.declared.Rect.{Rect}
 use Rattle.tree.specs.declared.Direction.{Direction}
 use Rattle.tree.specs.declared.Direction.the-variants.{Row, Column}
 use Rattle.tree.specs.declared.Style.{Style}

@@ -52,6 +52,7 @@ pub mod HitSteps
 pub mod Placing
 pub mod Sharing
 pub mod Passes
+pub mod PassSteps
 pub mod Queues
 pub mod SlottedOrders
 pub mod Wearings

@@ -1,13 +1,10 @@
 -- The passes over an order, a slot at a time. Assumes nothing.
-use mathlib.Core.Path.{_≡_, refl, sym, ap, _∙_}
+use mathlib.Core.Path.{_≡_, sym, ap, _∙_}
 use mathlib.Core.List.{List, [], _∷_}
 use Prim.Native.Nat.{ℕ, suc, _+_, _-_, _≤_, _<_, min}
 use native.Mathlib.Omega.{arith}
-use borrow.Author.Tests.{lt-ltb}
-use lib.Dec.{ltb}
 use lib.ListN.{length, getD, take, drop, length-take, drop-of-length-le}
 use lib.Seq.{drop-cons, getD-take}
-use Rattle.tree.specs.Tests.{pick}
 use Rattle.tree.specs.Slots.{Slots}
 use Rattle.tree.specs.Layout.{measureAt, measureAll, arrangeAt, arrangeAll}
 use Rattle.tree.specs.declared.LayoutSlot.{LayoutSlot}
@@ -34,8 +31,8 @@ pub arranged-none : (s : Slots) (l : List LayoutSlot) (j n : ℕ) (ids : List �
 unfolding arrangeAll
 arranged-none s l j n ids h = rw (part-none j n ids h)
 
-pub arranged-more : (s : Slots) (l : List LayoutSlot) (j n : ℕ) (ids : List ℕ) → j < n → j < length ids → getD ids j 0 < 128 → arrangeAll s (pick (ltb (getD ids j 0) 128) (arrangeAt s l (getD ids j 0)) l) (drop (j + 1) (take n ids)) ≡ arrangeAll s l (drop j (take n ids))
+pub arranged-more : (s : Slots) (l : List LayoutSlot) (j n : ℕ) (ids : List ℕ) → j < n → j < length ids → arrangeAll s (arrangeAt s l (getD ids j 0)) (drop (j + 1) (take n ids)) ≡ arrangeAll s l (drop j (take n ids))
 unfolding arrangeAll
-arranged-more s l j n ids h e i =
+arranged-more s l j n ids h e =
     let next : j + 1 ≡ suc j = omega arith in
-    rw (lt-ltb (getD ids j 0) 128 i) (ap (λ (k : ℕ). arrangeAll s (arrangeAt s l (getD ids j 0)) (drop k (take n ids))) next ∙ sym (ap (arrangeAll s l) (part-more j n ids h e)))
+    ap (λ (k : ℕ). arrangeAll s (arrangeAt s l (getD ids j 0)) (drop k (take n ids))) next ∙ sym (ap (arrangeAll s l) (part-more j n ids h e))

@@ -1,7 +1,7 @@
 -- One step of placing a node's children. Assumes nothing.
 use mathlib.Core.Path.{_≡_, refl, sym, ap, _∙_}
 use mathlib.Core.List.{List, [], _∷_}
-use Prim.Native.Nat.{ℕ, zero, suc, _+_}
+use Prim.Native.Nat.{ℕ, _+_}
 use native.Mathlib.Omega.{arith}
 use lib.IntN.{ℤ, pos}
 use lib.ListN.{getD, drop, set}
@@ -26,7 +26,7 @@ boxes-at s cx cy inner cursor shares n c cs =
     first ∙ ap (λ (l : List ℤ). boxAt s cx cy inner cursor (getD shares n (pos 0)) c ∷ boxes s cx cy inner (pastOf s cursor (getD shares n (pos 0)) c) l cs) (drop-drop 1 n shares)
 
 -- The first child has its box; the rest follows, with the next share.
-pub placed-more : (l : List LayoutSlot) (s : Style) (cx cy inner cursor : ℤ) (shares : List ℤ) (n k : ℕ) (ks : List ℕ) (c : Child) (cs : List Child) → setRects l (k ∷ ks) (boxes s cx cy inner cursor (drop n shares) (c ∷ cs)) ≡ setRects (set l k (withRect (layoutAt l k) (boxAt s cx cy inner cursor (getD shares n (pos 0)) c))) ks (boxes s cx cy inner (pastOf s cursor (getD shares n (pos 0)) c) (drop (n + 1) shares) cs)
+placed-more : (l : List LayoutSlot) (s : Style) (cx cy inner cursor : ℤ) (shares : List ℤ) (n k : ℕ) (ks : List ℕ) (c : Child) (cs : List Child) → setRects l (k ∷ ks) (boxes s cx cy inner cursor (drop n shares) (c ∷ cs)) ≡ setRects (set l k (withRect (layoutAt l k) (boxAt s cx cy inner cursor (getD shares n (pos 0)) c))) ks (boxes s cx cy inner (pastOf s cursor (getD shares n (pos 0)) c) (drop (n + 1) shares) cs)
 unfolding setRects
 placed-more l s cx cy inner cursor shares n k ks c cs = ap (λ (rs : List Rect). setRects l (k ∷ ks) rs) (boxes-at s cx cy inner cursor shares n c cs)
 

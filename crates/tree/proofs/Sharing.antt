@@ -1,22 +1,23 @@
--- The shares that the code asks for and sums are the definition's: zeros behind the grows change no share, no share past the
--- children is read, and no sum of shares stops, since none passes the leftover. Assumes nothing.
+-- The shares that the code asks for are the definition's: zeros behind the grows change no share, no share past the
+-- children is read, and where one grows the shares sum to the leftover. Assumes nothing.
 use mathlib.Core.Path.{_≡_, refl, sym, ap, _∙_, fun-ext}
-use mathlib.Core.Bool.{cond}
+use mathlib.Core.Bool.{true, false, cond}
 use mathlib.Core.List.{List, [], _∷_, _++_, map}
 use Prim.Native.Nat.{ℕ, zero, suc, _+_, _-_, _*_, _/_, _%_, _^_, _≤_, _<_, min}
 use native.Mathlib.Omega.{arith}
 use lib.Dec.{ltb}
-use lib.IntN.{ℤ, pos, negsuc, _+ℤ_}
-use lib.ListN.{getD, drop, take, length, replicate, length-replicate}
-use lib.Signed.{mag}
+use lib.IntN.{ℤ, pos, negsuc, _+ℤ_, +ℤ-idr, +ℤ-invr}
+use lib.ListN.{getD, drop, take, length, length-map, replicate, length-replicate}
+use lib.Signed.{mag, leZ}
 use lib.Seq.{sets, sets-eq, getD-drop}
 use Rattle.arithmetic.specs.Scalar.{stop, addSat, subSat}
 use Rattle.arithmetic.specs.Growth.{sumTo, table, comesBefore, rank, growSum, wholeShare, remainder, missing, shareWithUnit, share, planGrowth}
-use Rattle.arithmetic.proofs.Signed.{above-zero}
-use Rattle.arithmetic.proofs.Sums.{sum-of-none, sum-of-one-more}
-use Rattle.arithmetic.proofs.GrowthTheorems.{unitsAt, plan-length, shares-are-not-negative, partial-sums-within-leftover}
+use Rattle.arithmetic.proofs.GrowthPlans.{plan-of-no-leftover, plan-of-no-grow}
+use borrow.Author.Tests.{ltb-true, ltb-false, leb-false, lt-ltb, le-ltb}
+use Rattle.arithmetic.proofs.Sums.{sum-of-equals, summand-at-most-sum}
+use Rattle.arithmetic.proofs.GrowthTheorems.{unitsAt, plan-length, shares-are-not-negative, shares-sum-to-leftover}
 use Rattle.tree.specs.Layout.{Child, total, boxes, place, content, offset}
-use Rattle.tree.specs.Views.{noGrows, addedFrom, growOf, innerOf, boxAt, pastOf}
+use Rattle.tree.specs.Views.{noGrows, noShares, growOf, innerOf, boxAt, pastOf}
 use Rattle.tree.proofs.Placing.{boxes-more}
 use Rattle.tree.specs.declared.Rect.{Rect}
 use Rattle.tree.specs.declared.Style.{Style}
@@ -31,12 +32,12 @@ plan-by : (l : ℕ) (grows : List ℕ) (count : ℕ) → planGrowth (pos l) grow
 unfolding planGrowth share shareWithUnit wholeShare remainder missing growSum rank share-by
 plan-by l grows count = refl
 
-pub same-grows-same-plan : (l : ℤ) (g h : List ℕ) (count : ℕ) → ((k : ℕ) → getD g k 0 ≡ getD h k 0) → planGrowth l g count ≡ planGrowth l h count
+same-grows-same-plan : (l : ℤ) (g h : List ℕ) (count : ℕ) → ((k : ℕ) → getD g k 0 ≡ getD h k 0) → planGrowth l g count ≡ planGrowth l h count
 unfolding planGrowth
 same-grows-same-plan (pos l) g h count e = plan-by l g count ∙ ap (λ (f : ℕ → ℕ). table 128 (λ k. pos (share-by l f (min count 128) k))) (fun-ext e) ∙ sym (plan-by l h count)
 same-grows-same-plan (negsuc l) g h count e = refl
 
-zero-read : (n k : ℕ) → _≡_ {A = ℕ} (getD (replicate n 0) k 0) 0
+pub zero-read : (n k : ℕ) → _≡_ {A = ℕ} (getD (replicate n 0) k 0) 0
 zero-read zero k = refl
 zero-read (suc n) zero = refl
 zero-read (suc n) (suc k) = zero-read n k
@@ -46,34 +47,13 @@ before-zeros [] z h k = h k
 before-zeros (x ∷ g) z h zero = refl
 before-zeros (x ∷ g) z h (suc k) = before-zeros g z h k
 
-pub padded-read : (g : List ℕ) → length g ≤ 128 → (k : ℕ) → getD (sets noGrows 0 g) k 0 ≡ getD g k 0
+padded-read : (g : List ℕ) → length g ≤ 128 → (k : ℕ) → getD (sets noGrows 0 g) k 0 ≡ getD g k 0
 unfolding noGrows
 padded-read g h k =
     ap (λ (l : List ℕ). getD l k 0) (sets-eq g (replicate 128 0) 0 (omega (arith, h, length-replicate {A = ℕ} 128 0)))
     ∙ before-zeros g (drop (0 + length g) (replicate 128 0)) (λ j. getD-drop (0 + length g) (replicate 128 0) j 0 ∙ zero-read 128 (0 + length g + j)) k
 
 -- ---- the sum
-
-pub added-more : (sum : ℤ) (shares : List ℤ) (n count : ℕ) → n < count → addedFrom sum shares n (count - n) ≡ addedFrom (addSat sum (getD shares n (pos 0))) shares (n + 1) (count - (n + 1))
-unfolding addedFrom
-added-more sum shares n count h = let e : count - n ≡ suc (count - (n + 1)) = omega arith in rw e
-
-pub added-none : (sum : ℤ) (shares : List ℤ) (n k : ℕ) → k ≡ 0 → addedFrom sum shares n k ≡ sum
-unfolding addedFrom
-added-none sum shares n k h = rw h
-
-sum-fits : (a b : ℕ) → a + b < 2 ^ 63 → addSat (pos a) (pos b) ≡ pos (a + b)
-unfolding addSat stop
-sum-fits a b h = ap pos (omega arith)
-
-added-up : (shares : List ℤ) (u : ℕ → ℕ) → ((k : ℕ) → getD shares k (pos 0) ≡ pos (u k)) → ((m : ℕ) → sumTo u m < 2 ^ 63) → (n k : ℕ) → addedFrom (pos (sumTo u n)) shares n k ≡ pos (sumTo u (n + k))
-unfolding addedFrom
-added-up shares u are fit n zero = ap (λ (m : ℕ). pos (sumTo u m)) (omega arith)
-added-up shares u are fit n (suc k) =
-    let one : sumTo u (n + 1) ≡ sumTo u n + u n = sum-of-one-more u n in
-    let fits : sumTo u n + u n < 2 ^ 63 = omega (arith, fit (n + 1), one) in
-    let step : addSat (pos (sumTo u n)) (getD shares n (pos 0)) ≡ pos (sumTo u (n + 1)) = ap (λ (z : ℤ). addSat (pos (sumTo u n)) z) (are n) ∙ sum-fits (sumTo u n) (u n) fits ∙ ap pos (sym one) in
-    ap (λ (z : ℤ). addedFrom z shares (n + 1) k) step ∙ added-up shares u are fit (n + 1) k ∙ ap (λ (m : ℕ). pos (sumTo u m)) (omega arith)
 
 front-first : (u : ℕ → ℕ) (n : ℕ) → sumTo u (suc n) ≡ u 0 + sumTo (λ k. u (suc k)) n
 unfolding sumTo
@@ -88,16 +68,65 @@ total-up (suc n) (x ∷ xs) u h are =
     let rest : total (take n xs) ≡ pos (sumTo (λ k. u (suc k)) n) = total-up n xs (λ k. u (suc k)) (omega arith) (λ k. are (suc k)) in
     ap (λ (z : ℤ). z +ℤ total (take n xs)) (are 0) ∙ ap (λ (z : ℤ). pos (u 0) +ℤ z) rest ∙ ap pos (sym (front-first u n))
 
-pub sum-is-total : (l : ℤ) (g : List ℕ) (count n : ℕ) → above-zero l < 2 ^ 63 → n ≤ 128 → addedFrom (pos 0) (planGrowth l g count) 0 n ≡ total (take n (planGrowth l g count))
-sum-is-total l g count n fits h =
-    let u : ℕ → ℕ = unitsAt l g count in
-    let p : List ℤ = planGrowth l g count in
-    let none : sumTo u 0 ≡ 0 = sum-of-none u in
-    let fit : (m : ℕ) → sumTo u m < 2 ^ 63 = λ m. omega (arith, partial-sums-within-leftover l g count m, fits) in
-    ap (λ (a : ℕ). addedFrom (pos a) p 0 n) (sym none)
-    ∙ added-up p u (shares-are-not-negative l g count) fit 0 n
-    ∙ ap (λ (m : ℕ). pos (sumTo u m)) (omega arith)
-    ∙ sym (total-up n p u (omega (arith, plan-length l g count, h)) (shares-are-not-negative l g count))
+-- all of a leftover is shared where one grows
+whole-shared : (l : ℕ) (g : List ℕ) (count : ℕ) → count ≤ 128 → 0 < l → 0 < growSum g count → total (take count (planGrowth (pos l) g count)) ≡ pos l
+whole-shared l g count few some grows =
+    let n : min count 128 ≡ count = omega arith in
+    let positive : 0 < growSum g (min count 128) = rw n grows in
+    total-up count (planGrowth (pos l) g count) (unitsAt (pos l) g count) (omega (arith, plan-length (pos l) g count)) (shares-are-not-negative (pos l) g count)
+    ∙ ap pos (shares-sum-to-leftover l g count count some positive (omega arith))
+
+total-of-none : (n m : ℕ) → total (take n (replicate m (pos 0))) ≡ pos 0
+unfolding total
+total-of-none zero m = refl
+total-of-none (suc n) zero = refl
+total-of-none (suc n) (suc m) = ap (λ (z : ℤ). pos 0 +ℤ z) (total-of-none n m)
+
+stop-within : (z : ℤ) → mag z < 2 ^ 63 → stop z ≡ z
+unfolding stop
+stop-within (pos n) h = ap pos (omega arith)
+stop-within (negsuc n) h = ap negsuc (omega arith)
+
+less-none : (z : ℤ) → mag z < 2 ^ 63 → subSat z (pos 0) ≡ z
+unfolding subSat
+less-none z h = ap stop (+ℤ-idr z) ∙ stop-within z h
+
+less-itself : (z : ℤ) → subSat z z ≡ pos 0
+unfolding subSat stop
+less-itself z = ap stop (+ℤ-invr z)
+
+none-are-noShares : table 128 (λ (k : ℕ). pos 0) ≡ noShares
+unfolding table noShares
+none-are-noShares = refl
+
+-- What is left free, by whether there is a plan.
+pub free-of-no-plan : (l : ℤ) (g : List ℕ) (count : ℕ) → mag l < 2 ^ 63 → noShares ≡ planGrowth l g count → l ≡ subSat l (total (take count (planGrowth l g count)))
+unfolding noShares
+free-of-no-plan l g count h e =
+    sym (ap (λ (s : List ℤ). subSat l (total (take count s))) (sym e) ∙ ap (subSat l) (total-of-none count 128) ∙ less-none l h)
+
+pub free-of-plan : (l : ℤ) (g : List ℕ) (count : ℕ) → count ≤ 128 → leZ l (pos 0) ≡ false → ltb 0 (growSum g count) ≡ true → pos 0 ≡ subSat l (total (take count (planGrowth l g count)))
+free-of-plan (pos n) g count few some grows =
+    sym (ap (subSat (pos n)) (whole-shared n g count few (leb-false n 0 some) (ltb-true 0 (growSum g count) grows)) ∙ less-itself (pos n))
+free-of-plan (negsuc n) g count few some grows = let z : _≡_ {A = ℕ} 0 1 = cc in absurd (omega arith)
+
+pub no-plan-of-no-leftover : (l : ℤ) (g : List ℕ) (count : ℕ) → leZ l (pos 0) ≡ true → noShares ≡ planGrowth l g count
+no-plan-of-no-leftover l g count h = sym none-are-noShares ∙ plan-of-no-leftover l g count h
+
+pub no-plan-of-no-grow : (l : ℤ) (g : List ℕ) (count : ℕ) → count ≤ 128 → ltb 0 (growSum g count) ≡ false → noShares ≡ planGrowth l g count
+no-plan-of-no-grow l g count few h =
+    let n : min count 128 ≡ count = omega arith in
+    let z : growSum g count ≡ 0 = omega (arith, ltb-false 0 (growSum g count) h) in
+    sym none-are-noShares ∙ plan-of-no-grow l g count (ap (growSum g) n ∙ z)
+
+-- Whether one of some grows is not 0.
+pub some-grows : (g : List ℕ) (count k : ℕ) → k < count → 0 < getD g k 0 → true ≡ ltb 0 (growSum g count)
+unfolding growSum
+some-grows g count k h p = sym (lt-ltb 0 (growSum g count) (omega (arith, summand-at-most-sum (λ (j : ℕ). getD g j 0) count k h)))
+
+pub none-grows : (g : List ℕ) (count : ℕ) → ((k : ℕ) → k < count → getD g k 0 ≡ 0) → false ≡ ltb 0 (growSum g count)
+unfolding growSum
+none-grows g count h = sym (le-ltb 0 (growSum g count) (omega (arith, sum-of-equals (λ (j : ℕ). getD g j 0) 0 count h)))
 
 -- ---- a node's children placed
 
@@ -110,31 +139,31 @@ boxes-take s cx cy inner cursor (x ∷ xs) (c ∷ cs) =
     ∙ ap (λ (rs : List Rect). boxAt s cx cy inner cursor x c ∷ rs) (boxes-take s cx cy inner (pastOf s cursor x c) xs cs)
     ∙ sym (boxes-more s cx cy inner cursor (x ∷ xs) c cs)
 
-pub within-bound : (z : ℤ) → mag z < 2 ^ 63 → above-zero z < 2 ^ 63
-within-bound (pos n) h = h
-within-bound (negsuc n) h = omega arith
-
-pub placed-by-parts : (s : Style) (r : Rect) (cs : List Child) (cx cy across cursor leftover : ℤ) (shares : List ℤ)
-    → above-zero leftover < 2 ^ 63
+pub placed-by-parts : (s : Style) (r : Rect) (cs : List Child) (cx cy across cursor leftover free : ℤ) (shares : List ℤ) (g : List ℕ) (n : ℕ)
     → length cs ≤ 128
+    → n ≡ length cs
+    → g ≡ sets noGrows 0 (map growOf cs)
     → cx ≡ addSat (r .x) (s .padding .left)
     → cy ≡ addSat (r .y) (s .padding .top)
     → across ≡ innerOf (s .direction) (s .padding) r .cross
     → leftover ≡ subSat (innerOf (s .direction) (s .padding) r .main) (content s cs .main)
-    → shares ≡ planGrowth leftover (map growOf cs) (length cs)
-    → cursor ≡ offset (s .justify) (subSat leftover (addedFrom (pos 0) shares 0 (length cs)))
+    → shares ≡ planGrowth leftover g n
+    → free ≡ subSat leftover (total (take n (planGrowth leftover g n)))
+    → cursor ≡ offset (s .justify) free
     → boxes s cx cy across cursor shares cs ≡ place s r cs
 unfolding place innerOf
-placed-by-parts s r cs cx cy across cursor leftover shares fits few hx hy ha hl hs hc =
-    let n : ℕ = length cs in
-    let p : List ℤ = planGrowth leftover (map growOf cs) n in
-    let start : cursor ≡ offset (s .justify) (subSat leftover (total (take n p))) =
-    hc ∙ ap (λ (l : List ℤ). offset (s .justify) (subSat leftover (addedFrom (pos 0) l 0 n))) hs
-    ∙ ap (λ (z : ℤ). offset (s .justify) (subSat leftover z)) (sum-is-total leftover (map growOf cs) n n fits few) in
-    ap (λ (l : List ℤ). boxes s cx cy across cursor l cs) hs
-    ∙ sym (boxes-take s cx cy across cursor p cs)
-    ∙ ap (λ (z : ℤ). boxes s z cy across cursor (take n p) cs) hx
-    ∙ ap (λ (z : ℤ). boxes s (addSat (r .x) (s .padding .left)) z across cursor (take n p) cs) hy
-    ∙ ap (λ (z : ℤ). boxes s (addSat (r .x) (s .padding .left)) (addSat (r .y) (s .padding .top)) z cursor (take n p) cs) ha
-    ∙ ap (λ (z : ℤ). boxes s (addSat (r .x) (s .padding .left)) (addSat (r .y) (s .padding .top)) (innerOf (s .direction) (s .padding) r .cross) z (take n p) cs) start
-    ∙ ap (λ (z : ℤ). boxes s (addSat (r .x) (s .padding .left)) (addSat (r .y) (s .padding .top)) (innerOf (s .direction) (s .padding) r .cross) (offset (s .justify) (subSat z (total (take n (planGrowth z (map growOf cs) n))))) (take n (planGrowth z (map growOf cs) n)) cs) hl
+placed-by-parts s r cs cx cy across cursor leftover free shares g n few hn hg hx hy ha hl hs hf hc =
+    let many : List ℕ = map growOf cs in
+    let plan : planGrowth leftover g n ≡ planGrowth leftover many (length cs) =
+    ap (λ (l : List ℕ). planGrowth leftover l n) hg
+    ∙ same-grows-same-plan leftover (sets noGrows 0 many) many n (padded-read many (omega (arith, length-map cs growOf)))
+    ∙ ap (planGrowth leftover many) hn in
+    let start : cursor ≡ offset (s .justify) (subSat leftover (total (take (length cs) (planGrowth leftover many (length cs))))) =
+    hc ∙ ap (offset (s .justify)) (hf ∙ ap (λ (k : ℕ). subSat leftover (total (take k (planGrowth leftover g n)))) hn ∙ ap (λ (l : List ℤ). subSat leftover (total (take (length cs) l))) plan) in
+    sym (boxes-take s cx cy across cursor shares cs)
+    ∙ ap (λ (l : List ℤ). boxes s cx cy across cursor (take (length cs) l) cs) (hs ∙ plan)
+    ∙ ap (λ (z : ℤ). boxes s z cy across cursor (take (length cs) (planGrowth leftover many (length cs))) cs) hx
+    ∙ ap (λ (z : ℤ). boxes s (addSat (r .x) (s .padding .left)) z across cursor (take (length cs) (planGrowth leftover many (length cs))) cs) hy
+    ∙ ap (λ (z : ℤ). boxes s (addSat (r .x) (s .padding .left)) (addSat (r .y) (s .padding .top)) z cursor (take (length cs) (planGrowth leftover many (length cs))) cs) ha
+    ∙ ap (λ (z : ℤ). boxes s (addSat (r .x) (s .padding .left)) (addSat (r .y) (s .padding .top)) (innerOf (s .direction) (s .padding) r .cross) z (take (length cs) (planGrowth leftover many (length cs))) cs) start
+    ∙ ap (λ (z : ℤ). boxes s (addSat (r .x) (s .padding .left)) (addSat (r .y) (s .padding .top)) (innerOf (s .direction) (s .padding) r .cross) (offset (s .justify) (subSat z (total (take (length cs) (planGrowth z many (length cs)))))) (take (length cs) (planGrowth z many (length cs))) cs) hl

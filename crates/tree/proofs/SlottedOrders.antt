@@ -1,11 +1,9 @@
 -- Each number of an order is a slot's. Assumes nothing.
-use mathlib.Core.Bool.{Bool, true, false}
 use mathlib.Core.List.{List, [], _∷_, _++_}
 use Prim.Native.Nat.{ℕ, zero, suc, _<_}
 use native.Mathlib.Decide.{decLt}
 use native.Mathlib.Omega.{arith}
 use borrow.Author.Tests.{lt-ltb, le-ltb}
-use lib.ListN.{getD}
 use Rattle.tree.specs.Slots.{Slots, at, chain, kidsAt, order}
 use Rattle.tree.specs.Views.{Slotted}
 

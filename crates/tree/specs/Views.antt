@@ -1,11 +1,12 @@
 -- What layout's code hands around, as the records of its definitions.
 use Rattle.arithmetic.specs.Scalar.{addSat, subSat, maxOf}
-use Prim.Native.Nat.{ℕ, zero, suc, _+_, _<_, _≤_}
-use mathlib.Core.List.{List, _++_}
+use Rattle.arithmetic.specs.Growth.{planGrowth}
+use Prim.Native.Nat.{ℕ, _<_}
+use mathlib.Core.List.{List}
 use mathlib.Core.Path.{_≡_}
 use lib.IntN.{ℤ, pos}
-use lib.ListN.{getD, replicate, take}
-use Rattle.tree.specs.Layout.{Axes, Extent, Child, axes, outer, offset, boxed}
+use lib.ListN.{length, getD, replicate, take}
+use Rattle.tree.specs.Layout.{Axes, Extent, Child, axes, outer, summed, total, offset, boxed}
 use Rattle.tree.specs.declared.Direction.{Direction}
 use Rattle.tree.specs.declared.Direction.the-variants.{Row, Column}
 use Rattle.tree.specs.declared.Style.{Style}
@@ -33,6 +34,10 @@ noAxes = record { main = pos 0; cross = pos 0 }
 unfoldable pub joined : Direction → Axes → Child → Axes
 joined d a c = let o = outer d c in record { main = addSat (a .main) (o .main); cross = maxOf (a .cross) (o .cross) }
 
+-- Lengths summed over so many children, those of the list.
+abbrev pub SumOf : Style → Lengths → ℕ → List Child → Type 0
+SumOf s sum n cs = (axesOf sum ≡ summed (s .direction) noAxes cs) × (n ≡ length cs)
+
 -- A child's wanted size, grown along the main axis.
 abbrev pub grownOf : Direction → Child → ℤ → Extent
 grownOf Row c growth = record { width = addSat (c .wants .width) growth; height = c .wants .height }
@@ -51,10 +56,13 @@ growOf c = c .style .grow
 unfoldable pub noGrows : List ℕ
 noGrows = replicate 128 0
 
--- k shares from a place on, added one by one to a sum.
-unfoldable pub addedFrom : ℤ → List ℤ → ℕ → ℕ → ℤ
-addedFrom sum shares n zero = sum
-addedFrom sum shares n (suc k) = addedFrom (addSat sum (getD shares n (pos 0))) shares (n + 1) k
+unfoldable pub noShares : List ℤ
+noShares = replicate 128 (pos 0)
+
+-- The shares of a leftover among the first n children, and what they leave free.
+pub record SharedOut (leftover : ℤ) (grows : List ℕ) (n : ℕ) (shares : List ℤ) (free : ℤ) : Type 0 where
+  pub shared : shares ≡ planGrowth leftover grows n
+  pub rest : free ≡ subSat leftover (total (take n (planGrowth leftover grows n)))
 
 -- A node's box less its padding, along its axes.
 unfoldable pub innerOf : Direction → Edges → Rect → Axes
@@ -67,9 +75,3 @@ Slotted ids = (k : ℕ) → getD ids k 0 < 128
 -- The slots of an order.
 unfoldable pub listed : Order → List ℕ
 listed q = take (q .count) (q .ids)
-
--- A list went behind an order, as far as 128 places hold it.
-pub record Pushed (q r : Order) (l : List ℕ) : Type 0 where
-  pub room : q .count ≤ 128 → r .count ≤ 128
-  pub more : q .count ≤ r .count
-  pub is : listed r ≡ take 128 (listed q ++ l)

@@ -1,19 +1,16 @@
 // Layout: what a node wants to be, and where it places its children.
 ghost use mathlib.Core.Path.{_≡_};
 ghost use mathlib.Core.Bool.{_&&_};
-ghost use mathlib.Core.List.{map, [], _∷_};
-ghost use lib.IntN.{pos};
-ghost use Prim.Native.Nat.{min, _≤_};
-ghost use lib.ListN.{length, getD, take};
-ghost use lib.Seq.{sets};
+ghost use mathlib.Core.List.{List, [], _∷_};
+ghost use Prim.Native.Nat.{_≤_};
+ghost use lib.ListN.{take};
 ghost use lib.Signed.{leZ, ltZ};
 ghost use Rattle.arithmetic.specs.Scalar.{addSat, subSat};
-ghost use Rattle.arithmetic.specs.Growth.{planGrowth};
+ghost use Rattle.arithmetic.specs.Growth.{growSum};
 ghost use lib.Dec.{ltb};
-ghost use Rattle.tree.specs.Tests.{pick};
-ghost use Rattle.tree.specs.Slots.{chain, order};
+ghost use Rattle.tree.specs.Slots.{order};
 ghost use Rattle.tree.specs.Layout as laid;
-ghost use Rattle.tree.specs.Views.{childOf, axesOf, extentOf, noAxes, joined, grownOf, boxAt, pastOf, growOf, noGrows, addedFrom, innerOf, Slotted, listed, Pushed};
+ghost use Rattle.tree.specs.Views.{childOf, axesOf, extentOf, joined, grownOf, boxAt, pastOf, noShares, innerOf, Slotted, listed, SumOf, SharedOut};
 use crate::Align;
 use crate::Direction;
 use crate::Edges;
@@ -23,7 +20,6 @@ use crate::Size;
 use crate::Slot;
 use crate::Style;
 use crate::Viewport;
-use crate::input;
 use arithmetic::growth;
 use arithmetic::scalar;
 
@@ -122,57 +118,10 @@ fn with_child(a: Lengths, d: Direction, child: LayoutSlot) -> Lengths
     }
 }
 
-// How many children a chain has, from its first on.
-fn child_count(slots: [Slot; 128], first: u32) -> u32
-    ensures { λ r. ⌜ r ≡ length (chain 128 slots first) ⌝ }
+// What children take along the main axis, with a gap between each two, and the largest across: from their summed lengths and their number.
+fn content_extent(style: Style, sum: Lengths, count: u32) -> Lengths
+    ensures { λ r. ⌜ ((cs : List laid.Child) → SumOf style sum count cs → axesOf r ≡ laid.content style cs) ⌝ }
 {
-    let mut child = first;
-    let mut left: u32 = 128;
-    while child < 128 {
-        if left == 0 {
-            return 128;
-        }
-        let k = child as usize;
-        let s = slots[k];
-        child = s.next_sibling;
-        left = left - 1;
-    }
-    128 - left
-}
-
-// The children of a chain: their main lengths summed, and the largest across.
-fn sum_children(slots: [Slot; 128], layout: [LayoutSlot; 128], d: Direction, first: u32) -> Lengths
-    ensures { λ r. ⌜ axesOf r ≡ laid.summed d noAxes (map (laid.seen layout) (chain 128 slots first)) ⌝ }
-{
-    let mut sum = Lengths { main: 0, cross: 0 };
-    let mut child = first;
-    let mut left: u32 = 128;
-    while child < 128 {
-        if left == 0 {
-            return sum;
-        }
-        let k = child as usize;
-        let l = layout[k];
-        sum = with_child(sum, d, l);
-        let s = slots[k];
-        child = s.next_sibling;
-        left = left - 1;
-    }
-    sum
-}
-
-// The children's extent: outer lengths with a gap between each two, and the largest across.
-pub fn content_extent(
-    slots: [Slot; 128],
-    layout: [LayoutSlot; 128],
-    style: Style,
-    first: u32,
-) -> Lengths
-    ensures { λ r. ⌜ axesOf r ≡ laid.content style (map (laid.seen layout) (chain 128 slots first)) ⌝ }
-{
-    let d = style.direction;
-    let sum = sum_children(slots, layout, d, first);
-    let count = child_count(slots, first);
     if count < 2 {
         return sum;
     }
@@ -213,15 +162,15 @@ fn wanted(size: Size, content: i64, before: i64, behind: i64) -> i64
     sized(size, needed)
 }
 
-// What a node of this style wants to be, from its children.
-pub fn want(slots: [Slot; 128], layout: [LayoutSlot; 128], style: Style, first: u32) -> Extent
-    ensures { λ r. ⌜ extentOf r ≡ laid.want style (map (laid.seen layout) (chain 128 slots first)) ⌝ }
+// What a node of this style wants to be, from its children's summed lengths and their number.
+fn want(style: Style, sum: Lengths, count: u32) -> Extent
+    ensures { λ r. ⌜ ((cs : List laid.Child) → SumOf style sum count cs → extentOf r ≡ laid.want style cs) ⌝ }
 {
     let d = style.direction;
     let p = style.padding;
     let width = style.width;
     let height = style.height;
-    let c = content_extent(slots, layout, style, first);
+    let c = content_extent(style, sum, count);
     let e = turned(d, c);
     Extent {
         width: wanted(width, e.width, p.left, p.right),
@@ -245,23 +194,6 @@ fn with_rect(l: LayoutSlot, rect: Rect) -> LayoutSlot
 {
     let mut out = l;
     out.rect = rect;
-    out
-}
-
-// Slot i stores what it wants to be.
-pub fn measure(slots: [Slot; 128], layout: [LayoutSlot; 128], i: u32) -> [LayoutSlot; 128]
-    ensures { λ r. ⌜ r ≡ laid.measureAt slots layout i ⌝ }
-{
-    let mut out = layout;
-    if i >= 128 {
-        return out;
-    }
-    let k = i as usize;
-    let s = slots[k];
-    let l = layout[k];
-    let style = l.style;
-    let e = want(slots, layout, style, s.first_child);
-    out[k] = with_wants(l, e);
     out
 }
 
@@ -303,17 +235,6 @@ fn boxed(d: Direction, corner: Point, shift: Lengths, growth: i64, child: Layout
     }
 }
 
-// The share of place n; 0 past the array.
-fn share_at(shares: [i64; 128], n: u32) -> i64
-    ensures { λ r. ⌜ r ≡ getD shares n (pos 0) ⌝ }
-{
-    if n >= 128 {
-        return 0;
-    }
-    let k = n as usize;
-    shares[k]
-}
-
 // A child's box at the cursor, `run.main`, aligned in the `run.cross` across.
 fn child_box(style: Style, corner: Point, run: Lengths, growth: i64, child: LayoutSlot) -> Rect
     ensures { λ r. ⌜ r ≡ boxAt style (corner .x) (corner .y) (run .cross) (run .main) growth (childOf child) ⌝ }
@@ -342,115 +263,6 @@ fn past_child(style: Style, run: Lengths, growth: i64, child: LayoutSlot) -> Len
     }
 }
 
-// The children get their boxes one after another, each with its share of growth.
-fn place_children(
-    slots: [Slot; 128],
-    layout: [LayoutSlot; 128],
-    style: Style,
-    corner: Point,
-    run: Lengths,
-    shares: [i64; 128],
-    first: u32,
-) -> [LayoutSlot; 128]
-    ensures { λ r. ⌜ r ≡ laid.setRects layout (chain 128 slots first) (laid.boxes style (corner .x) (corner .y) (run .cross) (run .main) shares (map (laid.seen layout) (chain 128 slots first))) ⌝ }
-{
-    let mut out = layout;
-    let mut at = run;
-    let mut child = first;
-    let mut left: u32 = 128;
-    while child < 128 {
-        if left == 0 {
-            return out;
-        }
-        let k = child as usize;
-        let l = layout[k];
-        let growth = share_at(shares, 128 - left);
-        let rect = child_box(style, corner, at, growth, l);
-        let o = out[k];
-        out[k] = with_rect(o, rect);
-        at = past_child(style, at, growth, l);
-        let s = slots[k];
-        child = s.next_sibling;
-        left = left - 1;
-    }
-    out
-}
-
-// No grows at all.
-fn no_grows() -> [u32; 128]
-    ensures { λ r. ⌜ r ≡ noGrows ⌝ }
-{
-    [0u32; 128]
-}
-
-// The grows of a chain's children in order, and 0 behind them.
-fn grows_of(slots: [Slot; 128], layout: [LayoutSlot; 128], first: u32) -> [u32; 128]
-    ensures { λ r. ⌜ r ≡ sets noGrows 0 (map growOf (map (laid.seen layout) (chain 128 slots first))) ⌝ }
-{
-    let mut out = no_grows();
-    let mut child = first;
-    let mut left: u32 = 128;
-    while child < 128 {
-        if left == 0 {
-            return out;
-        }
-        let k = child as usize;
-        let n = (128 - left) as usize;
-        let l = layout[k];
-        let style = l.style;
-        out[n] = style.grow;
-        let s = slots[k];
-        child = s.next_sibling;
-        left = left - 1;
-    }
-    out
-}
-
-// The children's shares of a leftover.
-fn shares_of(slots: [Slot; 128], layout: [LayoutSlot; 128], leftover: i64, first: u32) -> [i64; 128]
-    ensures { λ r. ⌜ r ≡ planGrowth leftover (map growOf (map (laid.seen layout) (chain 128 slots first))) (length (chain 128 slots first)) ⌝ }
-{
-    let count = child_count(slots, first);
-    let grows = grows_of(slots, layout, first);
-    growth::plan_growth(leftover, grows, count as usize)
-}
-
-// A raw number.
-struct Raw {
-    raw: i64,
-}
-
-fn plus(a: Raw, b: i64) -> Raw
-    ensures { λ r. ⌜ r .raw ≡ addSat (a .raw) b ⌝ }
-{
-    Raw {
-        raw: scalar::saturating_add(a.raw, b),
-    }
-}
-
-// The first `count` shares summed.
-fn shares_total(shares: [i64; 128], count: u32) -> Raw
-    ensures { λ r. ⌜ r .raw ≡ addedFrom (pos 0) shares 0 count ⌝ }
-{
-    let mut sum = Raw { raw: 0 };
-    let mut n: u32 = 0;
-    while n < count {
-        let x = share_at(shares, n);
-        sum = plus(sum, x);
-        n = n + 1;
-    }
-    sum
-}
-
-// Where the run of children starts: growth has taken its part of the leftover.
-fn run_start(justify: Align, leftover: i64, shares: [i64; 128], count: u32) -> i64
-    ensures { λ r. ⌜ r ≡ laid.offset justify (subSat leftover (addedFrom (pos 0) shares 0 count)) ⌝ }
-{
-    let total = shares_total(shares, count);
-    let free = scalar::saturating_sub(leftover, total.raw);
-    offset(justify, free)
-}
-
 // A length less what stands before and behind in it.
 fn narrowed(a: i64, before: i64, behind: i64) -> i64
     ensures { λ r. ⌜ r ≡ subSat (subSat a before) behind ⌝ }
@@ -469,157 +281,202 @@ fn inner(d: Direction, p: Edges, rect: Rect) -> Lengths
 }
 
 // The corner of a node's content.
-fn content_corner(p: Edges, rect: Rect) -> Point
-    ensures { λ r. ⌜ (r .x ≡ addSat (rect .x) (p .left)) × (r .y ≡ addSat (rect .y) (p .top)) ⌝ }
+fn content_corner(style: Style, rect: Rect) -> Point
+    ensures { λ r. ⌜ (r .x ≡ addSat (rect .x) (style .padding .left)) × (r .y ≡ addSat (rect .y) (style .padding .top)) ⌝ }
 {
+    let p = style.padding;
     Point {
         x: scalar::saturating_add(rect.x, p.left),
         y: scalar::saturating_add(rect.y, p.top),
     }
 }
 
-// The children of a node get their boxes in its own.
-fn arrange_in(
-    slots: [Slot; 128],
-    layout: [LayoutSlot; 128],
-    style: Style,
-    rect: Rect,
-    first: u32,
-) -> [LayoutSlot; 128]
-    ensures { λ r. ⌜ r ≡ laid.setRects layout (chain 128 slots first) (laid.place style rect (map (laid.seen layout) (chain 128 slots first))) ⌝ }
+// What a node's children leave of the room for them, along its main axis.
+fn leftover_of(style: Style, rect: Rect, sum: Lengths, count: u32) -> i64
+    ensures { λ r. ⌜ ((cs : List laid.Child) → SumOf style sum count cs → r ≡ subSat (innerOf (style .direction) (style .padding) rect .main) (laid.content style cs .main)) ⌝ }
+{
+    let d = style.direction;
+    let p = style.padding;
+    let room = inner(d, p, rect);
+    let content = content_extent(style, sum, count);
+    scalar::saturating_sub(room.main, content.main)
+}
+
+// Where the run of children starts in a node's room, and the room across.
+fn run_start(style: Style, rect: Rect, free: i64) -> Lengths
+    ensures { λ r. ⌜ (r .main ≡ laid.offset (style .justify) free) × (r .cross ≡ innerOf (style .direction) (style .padding) rect .cross) ⌝ }
 {
     let d = style.direction;
     let p = style.padding;
     let justify = style.justify;
-    let count = child_count(slots, first);
-    let corner = content_corner(p, rect);
     let room = inner(d, p, rect);
-    let content = content_extent(slots, layout, style, first);
-    let leftover = scalar::saturating_sub(room.main, content.main);
-    let shares = shares_of(slots, layout, leftover, first);
-    let run = Lengths {
-        main: run_start(justify, leftover, shares, count),
+    Lengths {
+        main: offset(justify, free),
         cross: room.cross,
-    };
-    place_children(slots, layout, style, corner, run, shares, first)
-}
-
-// The children of slot i get their boxes; an index that is no slot changes nothing.
-pub fn arrange(slots: [Slot; 128], layout: [LayoutSlot; 128], i: u32) -> [LayoutSlot; 128]
-    ensures { λ r. ⌜ r ≡ pick (ltb i 128) (laid.arrangeAt slots layout i) layout ⌝ }
-{
-    if i >= 128 {
-        return layout;
     }
-    let k = i as usize;
-    let s = slots[k];
-    let l = layout[k];
-    let style = l.style;
-    let rect = l.rect;
-    arrange_in(slots, layout, style, rect, s.first_child)
 }
 
-// How many of the 128 places a count means.
-fn places(count: u32) -> u32
-    ensures { λ r. ⌜ r ≡ min count 128 ⌝ }
+// Whether one of the first `count` children grows.
+fn some_grow(grows: &[u32; 128], count: u32) -> bool
+    requires { ⌜ count ≤ 128 ⌝ }
+    ensures { λ r. ⌜ r ≡ ltb 0 (growSum (now (grows .entry)) count) ⌝ }
 {
-    if count < 128 { count } else { 128 }
+    let mut n: u32 = 0;
+    while n < count {
+        let k = n as usize;
+        if grows[k] > 0 {
+            return true;
+        }
+        n = n + 1;
+    }
+    false
+}
+
+// Each child's share of the leftover, into shares that are 0; returns what growth leaves free.
+// No plan is made where nothing is left or nothing grows, since its arrays are copied.
+fn share_out(leftover: i64, grows: &[u32; 128], count: u32, shares: &mut [i64; 128]) -> i64
+    requires { ⌜ (count ≤ 128) × (now shares ≡ noShares) ⌝ }
+    ensures { λ r. ⌜ SharedOut leftover (now (grows .entry)) count (now (shares .exit)) r ⌝ }
+{
+    if leftover <= 0 {
+        return leftover;
+    }
+    let some = some_grow(grows, count);
+    if some {
+        let all = *grows;
+        let planned = growth::plan_growth(leftover, all, count as usize);
+        *shares = planned;
+        return 0;
+    }
+    leftover
 }
 
 // The first `count` slots of an order store what they want to be, the last first: children before parents.
-pub fn measure_all(
+// One function with both loops, since a call for each slot would copy the arrays.
+fn measure_all(
     slots: [Slot; 128],
     layout: [LayoutSlot; 128],
     ids: [u32; 128],
     count: u32,
 ) -> [LayoutSlot; 128]
+    requires { ⌜ (count ≤ 128) × Slotted (take count ids) ⌝ }
     ensures { λ r. ⌜ r ≡ laid.measureAll slots layout (take count ids) ⌝ }
 {
     let mut out = layout;
-    let mut j = places(count);
+    let mut j = count;
     while j > 0 {
         j = j - 1;
         let k = j as usize;
         let id = ids[k];
-        let next = measure(slots, out, id);
-        out = next;
+        let i = id as usize;
+        let l = out[i];
+        let style = l.style;
+        let d = style.direction;
+        let mut sum = Lengths { main: 0, cross: 0 };
+        let mut child = slots[i].first_child;
+        let mut n: u32 = 0;
+        while (child < 128) & (n < 128) {
+            let c = child as usize;
+            let o = out[c];
+            sum = with_child(sum, d, o);
+            child = slots[c].next_sibling;
+            n = n + 1;
+        }
+        let e = want(style, sum, n);
+        out[i] = with_wants(l, e);
     }
     out
 }
 
 // The children of the first `count` slots of an order get their boxes: parents before children.
-pub fn arrange_all(
+// One function with its loops, since a call for each slot would copy the arrays.
+fn arrange_all(
     slots: [Slot; 128],
     layout: [LayoutSlot; 128],
     ids: [u32; 128],
     count: u32,
 ) -> [LayoutSlot; 128]
-    ensures { λ r. ⌜ (Slotted (take count ids) → r ≡ laid.arrangeAll slots layout (take count ids)) ⌝ }
+    requires { ⌜ (count ≤ 128) × Slotted (take count ids) ⌝ }
+    ensures { λ r. ⌜ r ≡ laid.arrangeAll slots layout (take count ids) ⌝ }
 {
-    let n = places(count);
     let mut out = layout;
     let mut j: u32 = 0;
-    while j < n {
+    while j < count {
         let k = j as usize;
         let id = ids[k];
-        let next = arrange(slots, out, id);
-        out = next;
+        let i = id as usize;
+        let first = slots[i].first_child;
         j = j + 1;
+        if first >= 128 {
+            continue;
+        }
+        let l = out[i];
+        let style = l.style;
+        let rect = l.rect;
+        let d = style.direction;
+        let mut grows = [0u32; 128];
+        let mut sum = Lengths { main: 0, cross: 0 };
+        let mut child = first;
+        let mut n: u32 = 0;
+        while (child < 128) & (n < 128) {
+            let c = child as usize;
+            let o = out[c];
+            let m = n as usize;
+            grows[m] = o.style.grow;
+            sum = with_child(sum, d, o);
+            child = slots[c].next_sibling;
+            n = n + 1;
+        }
+        let leftover = leftover_of(style, rect, sum, n);
+        let mut shares = [0i64; 128];
+        let free = share_out(leftover, &grows, n, &mut shares);
+        let corner = content_corner(style, rect);
+        let mut at = run_start(style, rect, free);
+        let mut next = first;
+        let mut passed: u32 = 0;
+        while (next < 128) & (passed < 128) {
+            let c = next as usize;
+            let o = out[c];
+            let m = passed as usize;
+            let growth = shares[m];
+            let b = child_box(style, corner, at, growth, o);
+            out[c] = with_rect(o, b);
+            at = past_child(style, at, growth, o);
+            next = slots[c].next_sibling;
+            passed = passed + 1;
+        }
     }
     out
 }
 
 // Slots in an order: the first `count` of the ids.
-pub struct Order {
-    pub ids: [u32; 128],
-    pub count: usize,
+struct Order {
+    ids: [u32; 128],
+    count: u32,
 }
 
-fn root_alone() -> Order
-    ensures { λ r. ⌜ (r .count ≡ 1) × (listed r ≡ 0 ∷ []) ⌝ }
-{
-    let ids = [0u32; 128];
-    Order { ids, count: 1 }
-}
-
-// A chain of siblings goes behind the order, as far as there is room.
-fn push_chain(q: Order, slots: [Slot; 128], first: u32) -> Order
-    ensures { λ r. ⌜ Pushed q r (chain 128 slots first) ⌝ }
-{
-    let mut out = q;
-    let mut child = first;
-    let mut left: u32 = 128;
-    while child < 128 {
-        let n = out.count;
-        if left == 0 {
-            return out;
-        }
-        if n >= 128 {
-            return out;
-        }
-        out.ids[n] = child;
-        out.count = n + 1;
-        let k = child as usize;
-        let s = slots[k];
-        child = s.next_sibling;
-        left = left - 1;
-    }
-    out
-}
-
-// Every slot below the root, parents before children, a level at a time.
-pub fn collect_order(slots: [Slot; 128]) -> Order
+// Every slot below the root, parents before children, a level at a time. The order is its own queue.
+fn collect_order(slots: [Slot; 128]) -> Order
     ensures { λ r. ⌜ (r .count ≤ 128) × (listed r ≡ order 128 slots (0 ∷ [])) ⌝ }
 {
-    let mut q = root_alone();
-    let mut at: usize = 0;
-    while at < q.count {
-        let id = q.ids[at];
-        let first = input::first_child(slots, id);
-        q = push_chain(q, slots, first);
+    let mut ids = [0u32; 128];
+    let mut count: u32 = 1;
+    let mut at: u32 = 0;
+    while at < count {
+        let k = at as usize;
+        let id = ids[k];
+        let i = id as usize;
+        let mut child = slots[i].first_child;
+        while (child < 128) & (count < 128) {
+            let n = count as usize;
+            ids[n] = child;
+            count = count + 1;
+            let c = child as usize;
+            child = slots[c].next_sibling;
+        }
         at = at + 1;
     }
-    q
+    Order { ids, count }
 }
 
 // A pass: the wanted sizes from the last of the order to the first, the viewport for the root, then the boxes.
@@ -628,7 +485,7 @@ pub fn solve(slots: [Slot; 128], layout: [LayoutSlot; 128], view: Viewport) -> [
 {
     let o = collect_order(slots);
     let ids = o.ids;
-    let count = short(o.count);
+    let count = o.count;
     let mut out = measure_all(slots, layout, ids, count);
     let root = out[0];
     let rect = Rect {
@@ -639,11 +496,4 @@ pub fn solve(slots: [Slot; 128], layout: [LayoutSlot; 128], view: Viewport) -> [
     };
     out[0] = with_rect(root, rect);
     arrange_all(slots, out, ids, count)
-}
-
-// A count of at most 128 places, in 32 bits.
-fn short(count: usize) -> u32
-    ensures { λ r. ⌜ r ≡ min count 128 ⌝ }
-{
-    if count < 128 { count as u32 } else { 128 }
 }

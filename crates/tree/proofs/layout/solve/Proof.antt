@@ -3,7 +3,6 @@ use mir.Val.{toZ, ofZ}
 use mir.Syntax.{w64}
 use lib.ListN.{take, set}
 use lib.IntN.{ℤ, pos}
-use native.Mathlib.Omega.{arith}
 use Prim.Native.Nat.{ℕ}
 use mathlib.Core.List.{List, [], _∷_}
 use mathlib.Core.Path.{_≡_, _∙_, ap}
@@ -21,11 +20,9 @@ use Rattle.tree.proofs.layout.solve.Tie as tie
 collect-order-requires : tie.Need-collect-order-requires
 collect-order-requires c κs = search needs
 
-short-requires : tie.Need-short-requires
-short-requires c κs = search needs
-
 measure-all-requires : tie.Need-measure-all-requires
-measure-all-requires c κs = search needs
+unfolding listed
+measure-all-requires c κs = let o = c .before .collect-order in (o .ensures .0, rw (o .ensures .1) (order-slotted 128 (c .before .before .args .slots) (0 ∷ []) root-slotted))
 
 array-copy-out-root : tie.Need-array-copy-out-root
 array-copy-out-root c = search needs
@@ -37,19 +34,19 @@ array-set-from-out : tie.Need-array-set-from-out
 array-set-from-out c = search needs
 
 arrange-all-requires : tie.Need-arrange-all-requires
-arrange-all-requires c κs = search needs
+unfolding listed
+arrange-all-requires c κs = let o = c .before .before .before .before .before .collect-order in (o .ensures .0, rw (o .ensures .1) (order-slotted 128 (c .before .before .before .before .before .before .args .slots) (0 ∷ []) root-slotted))
 
 returns : tie.Need-returns
 unfolding listed layoutAt passed
-returns c = let a = c .before .before .before .before .before .before .before .before .args in let o = c .before .before .before .before .before .before .before .collect-order in let m = c .before .before .before .before .measure-all in let w = c .before .with-rect in let n = c .before .before .before .before .before .short in
+returns c = let a = c .before .before .before .before .before .before .before .args in let o = c .before .before .before .before .before .before .collect-order in let m = c .before .before .before .before .measure-all in let w = c .before .with-rect in
     let all : List ℕ = order 128 (a .slots) (0 ∷ []) in
-    let whole : n .result ≡ o .result .count = omega (arith, n .ensures, o .ensures .0) in
-    let is : take (n .result) (o .result .ids) ≡ all = ap (λ (k : ℕ). take k (o .result .ids)) whole ∙ o .ensures .1 in
+    let is : take (o .result .count) (o .result .ids) ≡ all = o .ensures .1 in
     let box : w .result ≡ withRect (layoutAt (m .result) 0) (viewRect (a .view)) =
     w .ensures
     ∙ ap (λ (z : ℤ). withRect (layoutAt (m .result) 0) (record { x = pos 0; y = pos 0; width = z; height = toZ w64 (ofZ w64 (a .view .height)) })) (back (a .view .width) (c .before .before .struct-told .given .0 .1))
     ∙ ap (λ (z : ℤ). withRect (layoutAt (m .result) 0) (record { x = pos 0; y = pos 0; width = a .view .width; height = z })) (back (a .view .height) (c .before .before .struct-told .given .1 .0 .1)) in
-    c .arrange-all .ensures (rw is (order-slotted 128 (a .slots) (0 ∷ []) root-slotted))
+    c .arrange-all .ensures
     ∙ ap (λ (l : List ℕ). arrangeAll (a .slots) (set (m .result) 0 (w .result)) l) is
     ∙ ap (λ (x : LayoutSlot). arrangeAll (a .slots) (set (m .result) 0 x) all) box
     ∙ ap (λ (l : List LayoutSlot). arrangeAll (a .slots) (set l 0 (withRect (layoutAt l 0) (viewRect (a .view)))) all) (m .ensures ∙ ap (λ (l : List ℕ). measureAll (a .slots) (a .layout) l) is)
@@ -59,7 +56,6 @@ solve-spec =
     tie.close
     (tie.spec
     collect-order-requires
-    short-requires
     measure-all-requires
     array-copy-out-root
     with-rect-requires

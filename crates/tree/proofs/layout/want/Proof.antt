@@ -19,8 +19,8 @@ wanted-requires-2 c κs = search needs
 
 returns : tie.Need-returns
 unfolding want
-returns c = let w = c .before .before .before .before .wanted in let h = c .wanted2 in
-    rw (← c .before .before .before .before .before .before .before .before .before .content-extent .ensures, ← c .before .before .before .before .before .before .before .before .turned .ensures, said (w .result) (w .ok) (w .ensures), said (h .result) (h .ok) (h .ensures)) (search needs)
+returns c = λ cs sums. let w = c .before .before .before .before .wanted in let h = c .wanted2 in
+    rw (← c .before .before .before .before .before .before .before .before .before .content-extent .ensures cs sums, ← c .before .before .before .before .before .before .before .before .turned .ensures, said (w .result) (w .ok) (w .ensures), said (h .result) (h .ok) (h .ensures)) (search needs)
 
 pub want-spec : {M : Type 1} → statement M
 want-spec =
