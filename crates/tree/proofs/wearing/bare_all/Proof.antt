@@ -37,6 +37,7 @@ loop-less : tie.Need-loop-less Inv-loop μ-loop
 loop-less c = search needs
 
 loop-again : tie.Need-loop-again Inv-loop μ-loop
+unfolding withLooks
 loop-again c =
     let l = c .before .before .loop in (
       omega (arith, c .before .loop-test .taken),
