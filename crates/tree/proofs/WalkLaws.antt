@@ -96,7 +96,7 @@ and-joined : (a b c : Bool) → ((a && b) && c) ≡ (a && (b && c))
 and-joined true b c = refl
 and-joined false b c = refl
 
-all-one-further : (p : ℕ → Bool) (l : List ℕ) (m : ℕ) → m < length l → all p (take (m + 1) l) ≡ (all p (take m l) && p (getD l m 0))
+pub all-one-further : (p : ℕ → Bool) (l : List ℕ) (m : ℕ) → m < length l → all p (take (m + 1) l) ≡ (all p (take m l) && p (getD l m 0))
 all-one-further p l m h = let e : m + 1 ≡ suc m = omega arith in ap (λ (n : ℕ). all p (take n l)) e ∙ ap (all p) (take-suc l m 0 h) ∙ go (take m l)
   where
     go : (k : List ℕ) → all p (k ++ (getD l m 0 ∷ [])) ≡ (all p k && p (getD l m 0))

@@ -167,18 +167,18 @@ pub fn in_pool(count: u32, k: u16) -> bool
     (k == NO_PATCH) | ((k as u32) < count)
 }
 
-// Whether all entries of a table are.
+// Whether all entries of a table are. It goes through them all: a loop that cannot stop early is compiled to a few wide comparisons.
 pub fn table_in_pool(count: u32, table: [u16; 16]) -> bool
     ensures { λ r. ⌜ r ≡ all (inPool count) table ⌝ }
 {
+    let mut all = true;
     let mut i: usize = 0;
     while i < 16 {
-        if !in_pool(count, table[i]) {
-            return false;
-        }
+        let k = table[i];
+        all = all & in_pool(count, k);
         i += 1;
     }
-    true
+    all
 }
 
 // The style that a patch number gives: the patch's, or the base style where it is not in the pool.

@@ -1,36 +1,36 @@
--- The entries from here on pass just where all do. Assumes nothing.
-use mathlib.Core.Path.{_≡_, refl, _∙_}
+-- The entries passed are all in the pool or not. Assumes nothing.
+use mathlib.Core.Path.{_≡_, refl, sym, ap, _∙_}
 use Prim.Native.Nat.{_-_, _≤_}
 use native.Mathlib.Omega.{arith}
-use borrow.Author.Tests.{not-true, not-false}
 use borrow.Author.Needs.{needs}
-use lib.ListN.{length, drop}
-use Rattle.tree.specs.States.{inPool}
+use lib.ListN.{length, take}
+use lib.Seq.{take-all}
 use Rattle.tree.specs.Tests.{all}
-use Rattle.tree.proofs.Turns.{all-more, all-stop, all-done}
+use Rattle.tree.specs.States.{inPool}
+use Rattle.tree.proofs.WalkLaws.{all-one-further}
 use Rattle.tree.proofs.state.table_in_pool.Statement.{statement}
 use Rattle.tree.proofs.state.table_in_pool.Tie as tie
+use Rattle.tree.proofs.state.table_in_pool.Reads as reads
+use Rattle.tree.proofs.state.table_in_pool.Lts as lts
+use Rattle.tree.proofs.state.in_pool.Reads as in-pool-reads
 
 abbrev Inv-loop : tie.InvT-loop
-Inv-loop count table i₀ i = (i ≤ 16) × (length table ≡ 16) × (all (inPool count) (drop i table) ≡ all (inPool count) table)
+Inv-loop count table all₀ i₀ all′ i = (i ≤ 16) × (length table ≡ 16) × (all′ ≡ all (inPool count) (take i table))
 
 abbrev μ-loop : tie.MeasureT-loop
-μ-loop count table i₀ i = 16 - i
+μ-loop count table all₀ i₀ all′ i = 16 - i
 
 loop-holds : tie.Need-loop-holds Inv-loop μ-loop
 loop-holds c = (search needs, search needs, refl)
 
-mul-in-pool : tie.Need-mul-in-pool Inv-loop μ-loop
-mul-in-pool c = search needs
+mul-k : tie.Need-mul-k Inv-loop μ-loop
+mul-k c = search needs
 
-array-read-in-pool : tie.Need-array-read-in-pool Inv-loop μ-loop
-array-read-in-pool c = search needs
+array-read-k : tie.Need-array-read-k Inv-loop μ-loop
+array-read-k c = search needs
 
 in-pool-requires : tie.Need-in-pool-requires Inv-loop μ-loop
 in-pool-requires c κs = search needs
-
-returns : tie.Need-returns Inv-loop μ-loop
-returns c = all-stop (inPool (c .before .before .before .before .args .count)) (c .before .before .before .before .args .t2) (c .before .before .before .loop .i) 0 (omega arith) (c .before .in-pool .ensures) (not-true _ (c .if1 .taken)) ∙ c .before .before .before .loop .inv .2
 
 add-i : tie.Need-add-i Inv-loop μ-loop
 add-i c = search needs
@@ -39,10 +39,17 @@ loop-less : tie.Need-loop-less Inv-loop μ-loop
 loop-less c = search needs
 
 loop-again : tie.Need-loop-again Inv-loop μ-loop
-loop-again c = (search needs, search needs, all-more (inPool (c .before .before .before .before .args .count)) (c .before .before .before .before .args .t2) (c .before .before .before .loop .i) 0 (omega arith) (c .before .in-pool .ensures) (not-false _ (c .if1 .left)) ∙ c .before .before .before .loop .inv .2)
+loop-again c = let l = c .before .before .loop in
+    let a = c .before .before .before .args in (
+      search needs,
+      l .inv .1,
+      rw (l .inv .2, c .in-pool .ensures) (sym (all-one-further (inPool (a .count)) (a .t2) (l .i) (omega (arith, l .inv .1, c .before .loop-test .taken)))),
+    )
 
-returns-2 : tie.Need-returns-2 Inv-loop μ-loop
-returns-2 c = all-done (inPool (c .before .before .args .count)) (c .before .before .args .t2) (c .before .loop .i) (omega arith) ∙ c .before .loop .inv .2
+returns : tie.Need-returns Inv-loop μ-loop
+returns c = let l = c .before .loop in
+    let t = c .before .before .args .t2 in
+    l .inv .2 ∙ ap (all (inPool (c .before .before .args .count))) (take-all (l .i) t (omega (arith, l .inv .1, c .loop-test .left)))
 
 pub table-in-pool-spec : {M : Type 1} → statement M
 table-in-pool-spec =
@@ -51,11 +58,10 @@ table-in-pool-spec =
     Inv-loop
     μ-loop
     loop-holds
-    mul-in-pool
-    array-read-in-pool
+    mul-k
+    array-read-k
     in-pool-requires
-    returns
     add-i
     loop-less
     loop-again
-    returns-2)
+    returns)
