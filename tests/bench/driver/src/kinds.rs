@@ -49,8 +49,13 @@ const ON_TREES: [(u32, &str); 20] = [
     (ABSORB, "`absorb`"),
 ];
 
-const SHAPES: [(u32, &str); 5] =
-    [(ROOT, "root alone"), (FORM, "form of 20"), (FLAT, "128 flat"), (CHAIN, "chain of 128"), (EIGHTS, "128 by eights")];
+const SHAPES: [(u32, &str); 5] = [
+    (ROOT, "root alone"),
+    (FORM, "form of 20"),
+    (FLAT, "128 flat"),
+    (CHAIN, "chain of 128"),
+    (EIGHTS, "128 by eights"),
+];
 
 /// What is timed on what.
 pub struct Row {

@@ -12,7 +12,7 @@ use kinds::{REMOVE_PANEL, Row};
 /// A run builds a tree once and takes this many rounds on it.
 const ROUNDS: usize = 3;
 /// Each side is run as often, taking turns at going first.
-const PASSES: usize = 3;
+const PASSES: usize = 5;
 /// How long a round should take, in nanoseconds.
 const ROUND: u64 = 8_000_000;
 /// Calls of a round where only the answers are wanted.
@@ -27,7 +27,10 @@ type Run = fn(u32, u32, u32) -> (u64, [u64; ROUNDS]);
 fn same(row: &Row, n: u32, proved: u64) -> bool {
     let (source, _) = source::run(row.shape, row.kind, n);
     if source != proved {
-        println!("bench: {} on {}, rounds of {n}: the Rust ends with {source:08x}, Rattle with {proved:08x}", row.call, row.tree);
+        println!(
+            "bench: {} on {}, rounds of {n}: the Rust ends with {source:08x}, Rattle with {proved:08x}",
+            row.call, row.tree
+        );
     }
     source == proved
 }
@@ -52,22 +55,53 @@ fn calls_for(row: &Row, run: Run) -> u32 {
     }
 }
 
-/// Writes a line of the table; whether the fingerprints are equal.
-fn timed(row: &Row) -> bool {
-    let sides: [Run; 2] = [source::run, proved::run];
-    let counts = sides.map(|run| calls_for(row, run));
-    let mut times = [Vec::new(), Vec::new()];
-    let mut equal = true;
-    for pass in 0..PASSES {
+/// The two sides of a row: the source and the proved library, how many calls make a round of each, and what they took.
+struct Timing {
+    counts: [u32; 2],
+    times: [Vec<f64>; 2],
+}
+
+const SIDES: [Run; 2] = [source::run, proved::run];
+
+impl Timing {
+    fn new(row: &Row) -> Self {
+        Self { counts: SIDES.map(|run| calls_for(row, run)), times: [Vec::new(), Vec::new()] }
+    }
+
+    /// Takes a run of each side; whether the source, with as many calls, ends as the proved library does.
+    fn pass(&mut self, row: &Row, pass: usize) -> bool {
+        let mut equal = true;
         for side in [pass % 2, 1 - pass % 2] {
-            let (fingerprint, taken) = sides[side](row.shape, row.kind, counts[side]);
-            times[side].extend(taken.map(|time| time as f64 / f64::from(counts[side])));
-            equal = equal && (side == 0 || pass != 0 || same(row, counts[1], fingerprint));
+            let n = self.counts[side];
+            let (fingerprint, taken) = SIDES[side](row.shape, row.kind, n);
+            self.times[side].extend(taken.map(|time| time as f64 / f64::from(n)));
+            equal = equal && (side == 0 || same(row, n, fingerprint));
+        }
+        equal
+    }
+
+    fn show(&self, row: &Row) {
+        let [source, proved] = self.times.each_ref().map(|times| median(times.clone()));
+        println!("| {} | {} | {source:.1} | {proved:.1} | {:.2} |", row.call, row.tree, proved / source);
+    }
+}
+
+/// Writes the table; how many runs end otherwise than they should. A pass goes over all rows, so that what else the machine does for
+/// some seconds spoils few rounds of each.
+fn table(rows: &[Row]) -> usize {
+    let mut timings: Vec<Timing> = rows.iter().map(Timing::new).collect();
+    let mut differ = 0;
+    for pass in 0..PASSES {
+        for (row, timing) in rows.iter().zip(&mut timings) {
+            differ += usize::from(!timing.pass(row, pass));
         }
     }
-    let [source, proved] = times.map(median);
-    println!("| {} | {} | {source:.1} | {proved:.1} | {:.2} |", row.call, row.tree, proved / source);
-    equal
+    println!("| call | tree | Rust, ns | Rattle, ns | ratio |");
+    println!("|---|---|---:|---:|---:|");
+    for (row, timing) in rows.iter().zip(&timings) {
+        timing.show(row);
+    }
+    differ
 }
 
 /// Runs a row with few calls; whether the fingerprints are equal.
@@ -76,16 +110,20 @@ fn checked(row: &Row) -> bool {
     same(row, FEW, fingerprint)
 }
 
+/// `--check` compares and times nothing; any other word leaves only the rows that have it in them.
 fn main() {
-    let rows = kinds::rows();
-    let check = std::env::args().any(|word| word == "--check");
-    if !check {
-        println!("| call | tree | Rust, ns | Rattle, ns | ratio |");
-        println!("|---|---|---:|---:|---:|");
+    let (options, words): (Vec<String>, Vec<String>) =
+        std::env::args().skip(1).partition(|word| word == "--check");
+    let check = !options.is_empty();
+    let named = |row: &Row| words.iter().all(|word| row.call.contains(word) || row.tree.contains(word));
+    let rows: Vec<Row> = kinds::rows().into_iter().filter(named).collect();
+    if rows.is_empty() {
+        println!("bench: no row has these words");
+        std::process::exit(2);
     }
-    let differ = rows.iter().filter(|row| !if check { checked(row) } else { timed(row) }).count();
+    let differ = if check { rows.iter().filter(|row| !checked(row)).count() } else { table(&rows) };
     if differ != 0 {
-        println!("bench: {differ} of {} rows differ", rows.len());
+        println!("bench: {differ} runs end with other fingerprints");
         std::process::exit(1);
     }
     if check {

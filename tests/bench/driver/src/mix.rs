@@ -32,9 +32,9 @@ pub fn neighbour(found: Option<NodeId>) -> u64 {
 
 pub fn rect(acc: u64, found: Option<Rect>) -> u64 {
     match found {
-        Some(Rect { x, y, width, height }) => {
-            [x, y, width, height].iter().fold(acc, |acc, side| mix(acc, side.to_bits().max(0).cast_unsigned()))
-        }
+        Some(Rect { x, y, width, height }) => [x, y, width, height]
+            .iter()
+            .fold(acc, |acc, side| mix(acc, side.to_bits().max(0).cast_unsigned())),
         None => mix(acc, refused(MISSING)),
     }
 }

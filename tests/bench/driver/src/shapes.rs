@@ -104,7 +104,9 @@ fn leaf(width: u32, height: u32, grow: u32) -> Look {
 fn form_look(k: u32) -> Look {
     match k {
         0 => around(true, 0, 0, 0),
-        1..=3 => Look { column: false, width: 1280, height: 100, padding: 10, gap: 10, grow: 0, centred: true },
+        1..=3 => {
+            Look { column: false, width: 1280, height: 100, padding: 10, gap: 10, grow: 0, centred: true }
+        }
         _ if k % 5 == 4 => leaf(100, 24, k % 3),
         _ => leaf(100, 24, 0),
     }

@@ -114,15 +114,21 @@ fn change(ui: &mut Ui, shape: u32, kind: u32, n: u32, acc: u64) -> u64 {
         }
         SET_STYLE => {
             let styles = [shapes::other_style(), shapes::style(shape, k)];
-            turns(ui, n, acc, |ui, i, acc| mix(acc, verdict(ui.set_style(id(k), styles[i as usize % 2]), MISSING)))
+            turns(ui, n, acc, |ui, i, acc| {
+                mix(acc, verdict(ui.set_style(id(k), styles[i as usize % 2]), MISSING))
+            })
         }
         SET_STATE_TABLE => {
             let tables = [shapes::table(k % 8 + 1), shapes::table(k)];
-            turns(ui, n, acc, |ui, i, acc| mix(acc, verdict(ui.set_state_table(id(k), tables[i as usize % 2]), MISSING)))
+            turns(ui, n, acc, |ui, i, acc| {
+                mix(acc, verdict(ui.set_state_table(id(k), tables[i as usize % 2]), MISSING))
+            })
         }
         SET_PATCH_POOL => {
             let pools = [shapes::patches(8), shapes::patches(7)];
-            turns(ui, n, acc, |ui, i, acc| mix(acc, verdict(ui.set_patch_pool(pools[i as usize % 2].clone()), MISSING)))
+            turns(ui, n, acc, |ui, i, acc| {
+                mix(acc, verdict(ui.set_patch_pool(pools[i as usize % 2].clone()), MISSING))
+            })
         }
         MAKE_FIELD => turns(ui, n, acc, |ui, _, acc| mix(acc, field_made(ui, id(k)))),
         NO_FIELD => turns(ui, n, acc, |ui, _, acc| mix(acc, field_made(ui, id(12)))),
@@ -170,9 +176,9 @@ fn read(ui: &mut Ui, shape: u32, kind: u32, n: u32, acc: u64) -> u64 {
             Some(text) => mix(mix(acc, text.len() as u64), text.first().copied().unwrap_or(0).into()),
             None => mix(mix(acc, no_field(ui, of(i))), 0),
         }),
-        FIELD_CURSOR => {
-            turns(ui, n, acc, |ui, i, acc| mix(acc, ui.field_cursor(of(i)).map_or_else(|| no_field(ui, of(i)), u64::from)))
-        }
+        FIELD_CURSOR => turns(ui, n, acc, |ui, i, acc| {
+            mix(acc, ui.field_cursor(of(i)).map_or_else(|| no_field(ui, of(i)), u64::from))
+        }),
         METRES => turns(ui, n, acc, |ui, i, acc| match ui.field_text(of(i)) {
             Some(text) => mix(acc, metres(text).map_or_else(|number| refused(number.into()), u64::from)),
             None => mix(acc, no_field(ui, of(i))),
@@ -180,7 +186,9 @@ fn read(ui: &mut Ui, shape: u32, kind: u32, n: u32, acc: u64) -> u64 {
         RECT => turns(ui, n, acc, |ui, i, acc| rect(acc, ui.rect(of(i)))),
         IS_LIVE => turns(ui, n, acc, |ui, i, acc| mix(acc, ui.is_live(of(i)).into())),
         FIRST_CHILD => turns(ui, n, acc, |ui, i, acc| mix(acc, neighbour(ui.children(of(i)).next()))),
-        NEXT_SIBLING => turns(ui, n, acc, |ui, i, acc| mix(acc, ui.next_sibling(of(i)).map_or(refused(MISSING), neighbour))),
+        NEXT_SIBLING => turns(ui, n, acc, |ui, i, acc| {
+            mix(acc, ui.next_sibling(of(i)).map_or(refused(MISSING), neighbour))
+        }),
         ABSORB => turns(ui, n, acc, |ui, _, acc| ui.absorb(StateHash::standing_at(acc)).finish()),
         MEASURE => turns(ui, n, acc, |_, i, acc| {
             mix(acc, text::measure(black_box(&TEXT[i as usize % 2..])).to_bits().cast_unsigned())
