@@ -7,6 +7,8 @@ mod proved;
 mod shapes;
 mod source;
 
+use core::hint::black_box;
+
 use kinds::{REMOVE_PANEL, Row};
 
 /// A run builds a tree once and takes this many rounds on it.
@@ -86,6 +88,16 @@ impl Timing {
     }
 }
 
+/// Does some work further down the stack, by about a fifth of a page for each step: how long copies take depends on where in a page
+/// they lie, so that each pass has another place.
+#[inline(never)]
+fn lower<R>(steps: usize, work: impl FnOnce() -> R) -> R {
+    let room = black_box([0_u8; 768]);
+    let result = if steps == 0 { work() } else { lower(steps - 1, work) };
+    black_box(&room);
+    result
+}
+
 /// Writes the table; how many runs end otherwise than they should. A pass goes over all rows, so that what else the machine does for
 /// some seconds spoils few rounds of each.
 fn table(rows: &[Row]) -> usize {
@@ -93,7 +105,7 @@ fn table(rows: &[Row]) -> usize {
     let mut differ = 0;
     for pass in 0..PASSES {
         for (row, timing) in rows.iter().zip(&mut timings) {
-            differ += usize::from(!timing.pass(row, pass));
+            differ += usize::from(!lower(pass, || timing.pass(row, pass)));
         }
     }
     println!("| call | tree | Rust, ns | Rattle, ns | ratio |");
@@ -102,6 +114,14 @@ fn table(rows: &[Row]) -> usize {
         timing.show(row);
     }
     differ
+}
+
+/// Does some work on a stack of its own, which starts at the same place of a page in each run of the program.
+fn on_a_stack<R: Send>(work: impl FnOnce() -> R + Send) -> R {
+    std::thread::scope(|scope| {
+        let thread = std::thread::Builder::new().stack_size(16 << 20).spawn_scoped(scope, work);
+        thread.expect("there is room for a stack").join().expect("the work ends")
+    })
 }
 
 /// Runs a row with few calls; whether the fingerprints are equal.
@@ -121,7 +141,8 @@ fn main() {
         println!("bench: no row has these words");
         std::process::exit(2);
     }
-    let differ = if check { rows.iter().filter(|row| !checked(row)).count() } else { table(&rows) };
+    let differ =
+        if check { rows.iter().filter(|row| !checked(row)).count() } else { on_a_stack(|| table(&rows)) };
     if differ != 0 {
         println!("bench: {differ} runs end with other fingerprints");
         std::process::exit(1);
