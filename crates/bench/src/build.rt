@@ -1,25 +1,11 @@
 // Trees grown by calls, and what some kinds of call need first.
+use crate::kinds;
 use crate::shapes;
 use crate::shapes::id;
 use desk::UiEvent;
 use tree::Ui;
 use tree::UiLimits;
 use tree::Viewport;
-
-// The kinds of call that need a tree made ready for them.
-pub(crate) const INSERT: u32 = 1;
-
-pub(crate) const TABLE: u32 = 4;
-
-pub(crate) const FIELD: u32 = 6;
-
-pub(crate) const NO_FIELD: u32 = 7;
-
-pub(crate) const METRES: u32 = 10;
-
-pub(crate) const KEY: u32 = 19;
-
-pub(crate) const OUTPUT: u32 = 20;
 
 // The viewport, and one of another height.
 pub(crate) fn view(usual: bool) -> Viewport {
@@ -185,11 +171,15 @@ fn without_outputs(u: Ui) -> Ui {
 // The tree made ready for a kind of call.
 pub(crate) fn ready(u: Ui, shape: u32, kind: u32) -> Ui {
     match kind {
-        INSERT => with_room(u, shape),
-        TABLE => with_pool(u, shape),
-        NO_FIELD => with_fields(u),
-        OUTPUT => without_outputs(u),
-        FIELD | 8 | 9 | METRES | KEY => with_field(u, shape),
+        kinds::INSERT_REMOVE => with_room(u, shape),
+        kinds::SET_STATE_TABLE => with_pool(u, shape),
+        kinds::NO_FIELD => with_fields(u),
+        kinds::OUTPUT => without_outputs(u),
+        kinds::MAKE_FIELD => with_field(u, shape),
+        kinds::FIELD_TEXT => with_field(u, shape),
+        kinds::FIELD_CURSOR => with_field(u, shape),
+        kinds::METRES => with_field(u, shape),
+        kinds::KEY => with_field(u, shape),
         _ => u,
     }
 }

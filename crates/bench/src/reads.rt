@@ -1,4 +1,5 @@
 // The kinds of call that read, each on two nodes in turn: the leaf in focus and the root.
+use crate::kinds;
 use crate::mix;
 use crate::mix::mix;
 use crate::shapes;
@@ -97,15 +98,15 @@ fn measure(s: &[u8], n: u32, acc: u64) -> u64 {
 pub(crate) fn read(u: Ui, shape: u32, kind: u32, n: u32, acc: u64) -> u64 {
     let leaf = shapes::focus(shape);
     match kind {
-        8 => field_text(u, leaf, n, acc),
-        9 => field_cursor(u, leaf, n, acc),
-        10 => metres(u, leaf, n, acc),
-        13 => rect(u, leaf, n, acc),
-        14 => is_live(u, leaf, n, acc),
-        15 => first_child(u, leaf, n, acc),
-        16 => next_sibling(u, leaf, n, acc),
-        21 => absorb(u, n, acc),
-        22 => measure(b"Draught 7.40, ramp 3.5, ok", n, acc),
+        kinds::FIELD_TEXT => field_text(u, leaf, n, acc),
+        kinds::FIELD_CURSOR => field_cursor(u, leaf, n, acc),
+        kinds::METRES => metres(u, leaf, n, acc),
+        kinds::RECT => rect(u, leaf, n, acc),
+        kinds::IS_LIVE => is_live(u, leaf, n, acc),
+        kinds::FIRST_CHILD => first_child(u, leaf, n, acc),
+        kinds::NEXT_SIBLING => next_sibling(u, leaf, n, acc),
+        kinds::ABSORB => absorb(u, n, acc),
+        kinds::MEASURE => measure(b"Draught 7.40, ramp 3.5, ok", n, acc),
         _ => acc,
     }
 }

@@ -1,6 +1,7 @@
 // The kinds of call that give the next tree. Each has one loop in which the call stands by itself, since a tree that is handed through
 // further functions would be copied once more for each.
 use crate::build::view;
+use crate::kinds;
 use crate::mix;
 use crate::mix::mix;
 use crate::mix::verdict;
@@ -8,7 +9,6 @@ use crate::shapes;
 use crate::shapes::id;
 use desk::UiEvent;
 use field::EditOp;
-use tree::StatePatch;
 use tree::Style;
 use tree::Ui;
 use tree::UiLimits;
@@ -271,20 +271,20 @@ fn output(u: Ui, n: u32, acc: u64) -> Ran {
 // n calls of a kind; a kind that is none of these makes none.
 pub(crate) fn run(u: Ui, shape: u32, kind: u32, n: u32, acc: u64) -> Ran {
     match kind {
-        0 => new(u, n, acc),
-        1 => insert_remove(u, shape, n, acc),
-        2 => remove_panel(u, n, acc),
-        3 => set_style(u, shape, n, acc),
-        4 => set_state_table(u, shape, n, acc),
-        5 => set_patch_pool(u, n, acc),
-        6 => make_field(u, shapes::focus(shape), n, acc),
-        7 => make_field(u, 12, n, acc),
-        11 => clean_solve(u, n, acc),
-        12 => full_pass(u, n, acc),
-        17 => pointer_moved(u, shape, n, acc),
-        18 => press_release(u, n, acc),
-        19 => key(u, n, acc),
-        20 => output(u, n, acc),
+        kinds::NEW => new(u, n, acc),
+        kinds::INSERT_REMOVE => insert_remove(u, shape, n, acc),
+        kinds::REMOVE_PANEL => remove_panel(u, n, acc),
+        kinds::SET_STYLE => set_style(u, shape, n, acc),
+        kinds::SET_STATE_TABLE => set_state_table(u, shape, n, acc),
+        kinds::SET_PATCH_POOL => set_patch_pool(u, n, acc),
+        kinds::MAKE_FIELD => make_field(u, shapes::focus(shape), n, acc),
+        kinds::NO_FIELD => make_field(u, 12, n, acc),
+        kinds::CLEAN_SOLVE => clean_solve(u, n, acc),
+        kinds::FULL_PASS => full_pass(u, n, acc),
+        kinds::POINTER_MOVED => pointer_moved(u, shape, n, acc),
+        kinds::PRESS_RELEASE => press_release(u, n, acc),
+        kinds::KEY => key(u, n, acc),
+        kinds::OUTPUT => output(u, n, acc),
         _ => Ran { tree: u, acc: acc },
     }
 }

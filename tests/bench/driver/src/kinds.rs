@@ -1,4 +1,4 @@
-//! The kinds of call, numbered as `crates/bench/src/runs.rt` and `reads.rt` have them.
+//! The kinds of call, numbered as `crates/bench/src/kinds.rt` has them.
 
 use crate::shapes::{CHAIN, EIGHTS, FLAT, FORM, PANEL, ROOT};
 
