@@ -1,0 +1,54 @@
+-- n turns. Assumes nothing.
+use Prim.Native.Nat.{_-_}
+use borrow.Author.Needs.{needs}
+use Rattle.bench.proofs.runs.press_release.Statement.{statement}
+use Rattle.bench.proofs.runs.press_release.Tie as tie
+
+abbrev Inv-loop : tie.InvT-loop
+Inv-loop n acc all₀ out₀ i₀ all out i = Unit {0}
+
+abbrev μ-loop : tie.MeasureT-loop
+μ-loop n acc all₀ out₀ i₀ all out i = n - i
+
+loop-holds : tie.Need-loop-holds Inv-loop μ-loop
+loop-holds c = search needs
+
+button-requires : tie.Need-button-requires Inv-loop μ-loop
+button-requires c κs = search needs
+
+handle-requires : tie.Need-handle-requires Inv-loop μ-loop
+handle-requires c κs = search needs
+
+verdict-requires : tie.Need-verdict-requires Inv-loop μ-loop
+verdict-requires c κs = search needs
+
+mix-requires : tie.Need-mix-requires Inv-loop μ-loop
+mix-requires c κs = search needs
+
+add-i : tie.Need-add-i Inv-loop μ-loop
+add-i c = search needs
+
+loop-less : tie.Need-loop-less Inv-loop μ-loop
+loop-less c = search needs
+
+loop-again : tie.Need-loop-again Inv-loop μ-loop
+loop-again c = search needs
+
+returns : tie.Need-returns Inv-loop μ-loop
+returns c = search needs
+
+pub press-release-spec : {M : Type 1} → statement M
+press-release-spec =
+    tie.close
+    (tie.spec
+    Inv-loop
+    μ-loop
+    loop-holds
+    button-requires
+    handle-requires
+    verdict-requires
+    mix-requires
+    add-i
+    loop-less
+    loop-again
+    returns)
