@@ -18,6 +18,7 @@ use waiting::Waiting;
 
 // The tree goes on in the last answer. A script is at most 1,048,576 bytes long, and each line takes one or more of them.
 fn main() {
+    input::greet();
     let mut c = Ui::new(UiLimits { nodes: 1 });
     let mut waiting = Waiting::none();
     let mut text = [0u8; 1025];

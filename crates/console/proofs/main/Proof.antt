@@ -11,6 +11,9 @@ Inv-loop c₀ waiting₀ text₀ chunk₀ out₀ pipes₀ read₀ c waiting text
 abbrev μ-loop : tie.MeasureT-loop
 μ-loop c₀ waiting₀ text₀ chunk₀ out₀ pipes₀ read₀ c waiting text chunk out pipes read = 1049700 - read
 
+greet-requires : tie.Need-greet-requires Inv-loop μ-loop
+greet-requires c κs = search needs
+
 new-requires : tie.Need-new-requires Inv-loop μ-loop
 new-requires c κs = search needs
 
@@ -158,6 +161,7 @@ main-spec =
     (tie.spec
     Inv-loop
     μ-loop
+    greet-requires
     new-requires
     none-requires
     new-requires-2
