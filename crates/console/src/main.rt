@@ -11,7 +11,6 @@ mod words;
 use calls::Kind;
 use input::Pipes;
 use line::Line;
-use tree::StatePatch;
 use tree::Ui;
 use tree::UiLimits;
 use waiting::Waiting;
@@ -38,10 +37,7 @@ fn main() {
             pipes = input::put(&mut out, pipes, Line::malformed());
             break;
         }
-        if n == 0 {
-            continue;
-        }
-        if text[0] == 35 {
+        if calls::passed_over(&text, n) {
             continue;
         }
         let call = calls::read(&text, n);
@@ -66,12 +62,8 @@ fn main() {
                 c = turn::changed(c.tree, call, waiting);
             }
             Kind::Patch(touches) => {
-                let style = call.style;
                 pipes = input::put(&mut out, pipes, waiting.answer());
-                waiting = waiting.with(StatePatch {
-                    style: style,
-                    touches_layout: touches,
-                });
+                waiting = waiting.with(call.patch(touches));
             }
         }
     }
