@@ -7,6 +7,7 @@ use desk::UiEvent;
 use field::EditOp;
 use field::NodeId;
 use text::Measured;
+use tree::StatePatch;
 use tree::Style;
 use tree::Viewport;
 
@@ -67,6 +68,17 @@ struct IdRead {
 struct TableRead {
     ok: bool,
     table: [u16; 16],
+}
+
+impl Call {
+    // The patch that a line writes.
+    pub(crate) fn patch(self, touches: bool) -> StatePatch {
+        let style = self.style;
+        StatePatch {
+            style: style,
+            touches_layout: touches,
+        }
+    }
 }
 
 fn bare(word: Word) -> Call {
@@ -361,6 +373,11 @@ fn front(s: &[u8], n: usize) -> &[u8] {
 // The call in the first n bytes of a line's buffer.
 pub(crate) fn read(text: &[u8; 1025], n: usize) -> Call {
     call_of(front(text, n))
+}
+
+// Whether the first n bytes are no call: an empty line, or a comment.
+pub(crate) fn passed_over(text: &[u8; 1025], n: usize) -> bool {
+    (n == 0) | (text[0] == 35)
 }
 
 // What a word does to the tree.

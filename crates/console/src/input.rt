@@ -3,6 +3,7 @@
 ghost use Prim.Native.Nat.{_≤_};
 use crate::line::Line;
 use crate::words;
+use libc::STDERR_FILENO;
 use libc::STDIN_FILENO;
 use libc::STDOUT_FILENO;
 
@@ -27,6 +28,16 @@ impl Pipes {
             got: 0,
             held: 0,
         }
+    }
+}
+
+// Tells a person at a terminal how to go on. Standard output carries the answers alone, so that this goes to standard error.
+pub(crate) fn greet() {
+    if libc::isatty(STDIN_FILENO) == 1 {
+        io::write_all(
+            STDERR_FILENO,
+            b"console: one call a line, as 'new 4' and then 'insert 0 1'; docs/CONSOLE.md lists all calls; Ctrl-D ends\n",
+        );
     }
 }
 

@@ -11,13 +11,13 @@ mod words;
 use calls::Kind;
 use input::Pipes;
 use line::Line;
-use tree::StatePatch;
 use tree::Ui;
 use tree::UiLimits;
 use waiting::Waiting;
 
 // The tree goes on in the last answer. A script is at most 1,048,576 bytes long, and each line takes one or more of them.
 fn main() {
+    input::greet();
     let mut c = Ui::new(UiLimits { nodes: 1 });
     let mut waiting = Waiting::none();
     let mut text = [0u8; 1025];
@@ -37,10 +37,7 @@ fn main() {
             pipes = input::put(&mut out, pipes, Line::malformed());
             break;
         }
-        if n == 0 {
-            continue;
-        }
-        if text[0] == 35 {
+        if calls::passed_over(&text, n) {
             continue;
         }
         let call = calls::read(&text, n);
@@ -65,12 +62,8 @@ fn main() {
                 c = turn::changed(c.tree, call, waiting);
             }
             Kind::Patch(touches) => {
-                let style = call.style;
                 pipes = input::put(&mut out, pipes, waiting.answer());
-                waiting = waiting.with(StatePatch {
-                    style: style,
-                    touches_layout: touches,
-                });
+                waiting = waiting.with(call.patch(touches));
             }
         }
     }

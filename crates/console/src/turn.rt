@@ -173,7 +173,8 @@ fn without_output(tree: Ui) -> Changed {
     }
 }
 
-// The tree after a call, and whether the call was accepted. Each arm returns by itself, so that one tree serves them all.
+// The tree after a call, and whether the call was accepted. Each arm returns by itself, so that one tree serves them all. The program's loop
+// hands events to the desk itself; the arm for them stays, since with one caller `handle` is built into that loop, whose stack all calls need.
 pub(crate) fn changed(tree: Ui, call: Call, waiting: Waiting) -> Changed {
     let word = call.word;
     let style = call.style;

@@ -187,14 +187,10 @@ fn field_with(f: Field, mark: Mark, value: u32) -> Field {
     out
 }
 
-// The tree with one number set.
-fn edited(u: Ui, e: Edit) -> Ui {
-    let part = e.part;
-    let at = e.at as usize;
-    let value = e.value;
+// The tree with a number of its own set; a place past the stated slots, and a part that is no such number, changes nothing.
+fn number_set(u: Ui, part: Part, at: usize, value: u32) -> Ui {
     let mut out = u;
     match part {
-        Part::Nothing => {}
         Part::Limit => {
             out.limits.nodes = value;
         }
@@ -218,29 +214,51 @@ fn edited(u: Ui, e: Edit) -> Ui {
         Part::Outputs => {
             out.output_count = value;
         }
-        Part::OfSlot(link) => {
-            if at < 128 {
-                let slots = u.slots;
-                let next = slot_with(slots[at], link, value);
-                out.slots[at] = next;
-            }
-        }
-        Part::OfState(dress) => {
-            if at < 128 {
-                let states = u.states;
-                let next = state_with(states[at], dress, value);
-                out.states[at] = next;
-            }
-        }
-        Part::OfField(mark) => {
-            if at < 8 {
-                let fields = u.fields;
-                let next = field_with(fields[at], mark, value);
-                out.fields[at] = next;
-            }
-        }
+        _ => {}
     }
     out
+}
+
+fn slot_set(u: Ui, link: Link, at: usize, value: u32) -> Ui {
+    let mut out = u;
+    if at < 128 {
+        let slots = u.slots;
+        let next = slot_with(slots[at], link, value);
+        out.slots[at] = next;
+    }
+    out
+}
+
+fn state_set(u: Ui, dress: Dress, at: usize, value: u32) -> Ui {
+    let mut out = u;
+    if at < 128 {
+        let states = u.states;
+        let next = state_with(states[at], dress, value);
+        out.states[at] = next;
+    }
+    out
+}
+
+fn field_set(u: Ui, mark: Mark, at: usize, value: u32) -> Ui {
+    let mut out = u;
+    if at < 8 {
+        let fields = u.fields;
+        let next = field_with(fields[at], mark, value);
+        out.fields[at] = next;
+    }
+    out
+}
+
+// The tree with one number set.
+fn edited(u: Ui, e: Edit) -> Ui {
+    let part = e.part;
+    let at = e.at as usize;
+    match part {
+        Part::OfSlot(link) => slot_set(u, link, at, e.value),
+        Part::OfState(dress) => state_set(u, dress, at, e.value),
+        Part::OfField(mark) => field_set(u, mark, at, e.value),
+        _ => number_set(u, part, at, e.value),
+    }
 }
 
 // The tree after all edits.

@@ -11,6 +11,9 @@ Inv-loop c₀ waiting₀ text₀ chunk₀ out₀ pipes₀ read₀ c waiting text
 abbrev μ-loop : tie.MeasureT-loop
 μ-loop c₀ waiting₀ text₀ chunk₀ out₀ pipes₀ read₀ c waiting text chunk out pipes read = 1049700 - read
 
+greet-requires : tie.Need-greet-requires Inv-loop μ-loop
+greet-requires c κs = search needs
+
 new-requires : tie.Need-new-requires Inv-loop μ-loop
 new-requires c κs = search needs
 
@@ -35,20 +38,14 @@ malformed-requires c κs = search needs
 put-requires : tie.Need-put-requires Inv-loop μ-loop
 put-requires c κs = search needs
 
+passed-over-requires : tie.Need-passed-over-requires Inv-loop μ-loop
+passed-over-requires c κs = search needs
+
 loop-less : tie.Need-loop-less Inv-loop μ-loop
 loop-less c = search needs
 
 loop-again : tie.Need-loop-again Inv-loop μ-loop
 loop-again c = search needs
-
-array-read-if4 : tie.Need-array-read-if4 Inv-loop μ-loop
-array-read-if4 c = search needs
-
-loop-less-2 : tie.Need-loop-less-2 Inv-loop μ-loop
-loop-less-2 c = search needs
-
-loop-again-2 : tie.Need-loop-again-2 Inv-loop μ-loop
-loop-again-2 c = search needs
 
 read-requires : tie.Need-read-requires Inv-loop μ-loop
 read-requires c κs = search needs
@@ -65,11 +62,11 @@ asked-requires c κs = search needs
 put-requires-2 : tie.Need-put-requires-2 Inv-loop μ-loop
 put-requires-2 c κs = search needs
 
-loop-less-3 : tie.Need-loop-less-3 Inv-loop μ-loop
-loop-less-3 c = omega (arith, c .before .before .before .before .before .before .before .before .before .before .before .if1 .left, c .before .before .before .before .before .before .before .before .before .before .before .before .before .before .before .before .before .before .before .loop-test .taken)
+loop-less-2 : tie.Need-loop-less-2 Inv-loop μ-loop
+loop-less-2 c = omega (arith, c .before .before .before .before .before .before .before .before .before .before .before .before .if1 .left, c .before .before .before .before .before .before .before .before .before .before .before .before .before .before .before .before .before .before .before .before .loop-test .taken)
 
-loop-again-3 : tie.Need-loop-again-3 Inv-loop μ-loop
-loop-again-3 c = search needs
+loop-again-2 : tie.Need-loop-again-2 Inv-loop μ-loop
+loop-again-2 c = search needs
 
 enum-told-2 : tie.Need-enum-told-2 Inv-loop μ-loop
 enum-told-2 c = search needs
@@ -86,11 +83,11 @@ plain-requires c κs = search needs
 put-requires-3 : tie.Need-put-requires-3 Inv-loop μ-loop
 put-requires-3 c κs = search needs
 
-loop-less-4 : tie.Need-loop-less-4 Inv-loop μ-loop
-loop-less-4 c = omega (arith, c .before .before .before .before .before .before .before .before .before .before .before .before .before .if1 .left, c .before .before .before .before .before .before .before .before .before .before .before .before .before .before .before .before .before .before .before .before .before .loop-test .taken)
+loop-less-3 : tie.Need-loop-less-3 Inv-loop μ-loop
+loop-less-3 c = omega (arith, c .before .before .before .before .before .before .before .before .before .before .before .before .before .before .if1 .left, c .before .before .before .before .before .before .before .before .before .before .before .before .before .before .before .before .before .before .before .before .before .before .loop-test .taken)
 
-loop-again-4 : tie.Need-loop-again-4 Inv-loop μ-loop
-loop-again-4 c = search needs
+loop-again-3 : tie.Need-loop-again-3 Inv-loop μ-loop
+loop-again-3 c = search needs
 
 enum-known-e : tie.Need-enum-known-e Inv-loop μ-loop
 enum-known-e c = search needs
@@ -104,11 +101,11 @@ plain-requires-2 c κs = search needs
 put-requires-4 : tie.Need-put-requires-4 Inv-loop μ-loop
 put-requires-4 c κs = search needs
 
-loop-less-5 : tie.Need-loop-less-5 Inv-loop μ-loop
-loop-less-5 c = omega (arith, c .before .before .before .before .before .before .before .before .before .before .before .before .before .if1 .left, c .before .before .before .before .before .before .before .before .before .before .before .before .before .before .before .before .before .before .before .before .before .loop-test .taken)
+loop-less-4 : tie.Need-loop-less-4 Inv-loop μ-loop
+loop-less-4 c = omega (arith, c .before .before .before .before .before .before .before .before .before .before .before .before .before .before .if1 .left, c .before .before .before .before .before .before .before .before .before .before .before .before .before .before .before .before .before .before .before .before .before .before .loop-test .taken)
 
-loop-again-5 : tie.Need-loop-again-5 Inv-loop μ-loop
-loop-again-5 c = search needs
+loop-again-4 : tie.Need-loop-again-4 Inv-loop μ-loop
+loop-again-4 c = search needs
 
 enum-told-3 : tie.Need-enum-told-3 Inv-loop μ-loop
 enum-told-3 c = search needs
@@ -122,11 +119,11 @@ put-requires-5 c κs = search needs
 changed-requires-2 : tie.Need-changed-requires-2 Inv-loop μ-loop
 changed-requires-2 c κs = search needs
 
-loop-less-6 : tie.Need-loop-less-6 Inv-loop μ-loop
-loop-less-6 c = omega (arith, c .before .before .before .before .before .before .before .before .before .before .before .before .if1 .left, c .before .before .before .before .before .before .before .before .before .before .before .before .before .before .before .before .before .before .before .before .loop-test .taken)
+loop-less-5 : tie.Need-loop-less-5 Inv-loop μ-loop
+loop-less-5 c = omega (arith, c .before .before .before .before .before .before .before .before .before .before .before .before .before .if1 .left, c .before .before .before .before .before .before .before .before .before .before .before .before .before .before .before .before .before .before .before .before .before .loop-test .taken)
 
-loop-again-6 : tie.Need-loop-again-6 Inv-loop μ-loop
-loop-again-6 c = search needs
+loop-again-5 : tie.Need-loop-again-5 Inv-loop μ-loop
+loop-again-5 c = search needs
 
 enum-known-touches : tie.Need-enum-known-touches Inv-loop μ-loop
 enum-known-touches c = search needs
@@ -137,14 +134,17 @@ answer-requires c κs = search needs
 put-requires-6 : tie.Need-put-requires-6 Inv-loop μ-loop
 put-requires-6 c κs = search needs
 
+patch-requires : tie.Need-patch-requires Inv-loop μ-loop
+patch-requires c κs = search needs
+
 with-requires : tie.Need-with-requires Inv-loop μ-loop
 with-requires c κs = search needs
 
-loop-less-7 : tie.Need-loop-less-7 Inv-loop μ-loop
-loop-less-7 c = omega (arith, c .before .before .before .before .before .before .before .before .before .before .before .before .before .before .if1 .left, c .before .before .before .before .before .before .before .before .before .before .before .before .before .before .before .before .before .before .before .before .before .before .loop-test .taken)
+loop-less-6 : tie.Need-loop-less-6 Inv-loop μ-loop
+loop-less-6 c = omega (arith, c .before .before .before .before .before .before .before .before .before .before .before .before .before .before .before .if1 .left, c .before .before .before .before .before .before .before .before .before .before .before .before .before .before .before .before .before .before .before .before .before .before .before .loop-test .taken)
 
-loop-again-7 : tie.Need-loop-again-7 Inv-loop μ-loop
-loop-again-7 c = search needs
+loop-again-6 : tie.Need-loop-again-6 Inv-loop μ-loop
+loop-again-6 c = search needs
 
 flush-requires : tie.Need-flush-requires Inv-loop μ-loop
 flush-requires c κs = search needs
@@ -158,6 +158,7 @@ main-spec =
     (tie.spec
     Inv-loop
     μ-loop
+    greet-requires
     new-requires
     none-requires
     new-requires-2
@@ -166,42 +167,41 @@ main-spec =
     add-read
     malformed-requires
     put-requires
+    passed-over-requires
     loop-less
     loop-again
-    array-read-if4
-    loop-less-2
-    loop-again-2
     read-requires
     kind-of-requires
     enum-told
     asked-requires
     put-requires-2
-    loop-less-3
-    loop-again-3
+    loop-less-2
+    loop-again-2
     enum-told-2
     changed-requires
     after-requires
     plain-requires
     put-requires-3
-    loop-less-4
-    loop-again-4
+    loop-less-3
+    loop-again-3
     enum-known-e
     handle-requires
     plain-requires-2
     put-requires-4
-    loop-less-5
-    loop-again-5
+    loop-less-4
+    loop-again-4
     enum-told-3
     asked-requires-2
     put-requires-5
     changed-requires-2
-    loop-less-6
-    loop-again-6
+    loop-less-5
+    loop-again-5
     enum-known-touches
     answer-requires
     put-requires-6
+    patch-requires
     with-requires
-    loop-less-7
-    loop-again-7
+    loop-less-6
+    loop-again-6
     flush-requires
     returns)
