@@ -1,6 +1,7 @@
 -- modules that belong to no one function
 pub mod Invariant
 pub mod NameLaws
+pub mod HeardLaws
 pub mod RefreshSteps
 pub mod PointerSteps
 pub mod KeySteps

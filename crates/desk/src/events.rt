@@ -1,16 +1,21 @@
-// What an event does to the tree, before the bits are refreshed.
+// What an event does to the tree, before the bits are refreshed, by the parts that it changes: a whole tree is costly to pass on.
+// So a contract on parts speaks of every tree that has them.
 ghost use mathlib.Core.Path.{_≡_};
 ghost use Prim.Native.Nat.{_+_, _<_, _≤_};
 ghost use mathlib.Core.List.{[], _∷_, _++_};
 ghost use lib.ListN.{length, take};
 ghost use Rattle.tree.specs.Fields.{fieldOf};
-ghost use Rattle.tree.specs.Trees.{limitOf, waitingOf, over, withInteraction, withWaiting};
+ghost use Rattle.tree.specs.Trees.{limitOf, over, withInteraction, withWaiting};
+ghost use Rattle.tree.specs.declared.Ui.{Ui};
+ghost use Rattle.field.specs.declared.MaybeId.{MaybeId};
+ghost use Rattle.desk.specs.Parts.{partsOf, heardAs, hasLive};
 ghost use Rattle.desk.specs.Events as events;
 ghost use Rattle.desk.specs.Events.{pointedAt, pressedOn, foldedBy, idBytes, keyBytes, releasedOn, keyedField, editFocused};
 ghost use Rattle.arithmetic.specs.Fold.{lowBytes, emptyHash, absorbed};
 ghost use Rattle.arithmetic.specs.Scalar.{incremented};
 ghost use Rattle.tree.specs.Tests.{pick, same};
 use crate::Key;
+use crate::Parts;
 use crate::UiEvent;
 use crate::fold;
 use arithmetic::scalar;
@@ -26,11 +31,11 @@ use tree::fields::Place;
 use tree::links;
 use tree::state;
 
-// The tree with the pointer elsewhere.
-fn point(u: Ui, x: i32, y: i32) -> Ui
-    ensures { λ r. ⌜ r ≡ withInteraction u (pointedAt (u .interaction) (record { x = x; y = y })) ⌝ }
+// The pointer elsewhere.
+fn point(p: Parts, x: i32, y: i32) -> Parts
+    ensures { λ r. ⌜ ((u : Ui) → heardAs u r ≡ withInteraction (heardAs u p) (pointedAt (p .interaction) (record { x = x; y = y }))) ⌝ }
 {
-    let a = u.interaction;
+    let a = p.interaction;
     let pressed = a.pressed;
     let focus = a.focus;
     let next = Interaction {
@@ -42,16 +47,16 @@ fn point(u: Ui, x: i32, y: i32) -> Ui
         edit_fold: a.edit_fold,
         overflowed: a.overflowed,
     };
-    let mut out = u;
+    let mut out = p;
     out.interaction = next;
     out
 }
 
-// The tree with a press on a node, or none.
-fn press(u: Ui, id: MaybeId) -> Ui
-    ensures { λ r. ⌜ r ≡ withInteraction u (pressedOn (u .interaction) id) ⌝ }
+// A press on a node, or none.
+fn press(p: Parts, id: MaybeId) -> Parts
+    ensures { λ r. ⌜ ((u : Ui) → heardAs u r ≡ withInteraction (heardAs u p) (pressedOn (p .interaction) id)) ⌝ }
 {
-    let a = u.interaction;
+    let a = p.interaction;
     let pointer = a.pointer;
     let focus = a.focus;
     let next = Interaction {
@@ -63,7 +68,7 @@ fn press(u: Ui, id: MaybeId) -> Ui
         edit_fold: a.edit_fold,
         overflowed: a.overflowed,
     };
-    let mut out = u;
+    let mut out = p;
     out.interaction = next;
     out
 }
@@ -108,52 +113,51 @@ fn with_output(ids: [NodeId; 128], k: u32, d: NodeId) -> [NodeId; 128]
     out
 }
 
-// The tree with an output after those that wait.
-fn queue(u: Ui, d: NodeId) -> Ui
-    requires { ⌜ u .«output_count» < 128 ⌝ }
-    ensures { λ r. ⌜ r ≡ withWaiting u (waitingOf u ++ d ∷ []) ⌝ }
+// An output after those that wait.
+fn queue(p: Parts, d: NodeId) -> Parts
+    requires { ⌜ p .«output_count» < 128 ⌝ }
+    ensures { λ r. ⌜ ((u : Ui) → heardAs u r ≡ withWaiting (heardAs u p) (take (p .«output_count») (p .outputs) ++ d ∷ [])) ⌝ }
 {
-    let ids = u.outputs;
-    let next = with_output(ids, u.output_count, d);
-    let mut out = u;
+    let ids = p.outputs;
+    let next = with_output(ids, p.output_count, d);
+    let mut out = p;
     out.outputs = next;
-    out.output_count = u.output_count + 1;
+    out.output_count = p.output_count + 1;
     out
 }
 
 // The node is activated.
-fn activate(u: Ui, d: NodeId) -> Ui
-    requires { ⌜ limitOf u ≤ 128 ⌝ }
-    ensures { λ r. ⌜ r ≡ events.activate u d ⌝ }
+fn activate(p: Parts, limit: u32, d: NodeId) -> Parts
+    requires { ⌜ limit ≤ 128 ⌝ }
+    ensures { λ r. ⌜ ((u : Ui) → limit ≡ limitOf u → heardAs u r ≡ events.activate (heardAs u p) d) ⌝ }
 {
-    let limits = u.limits;
-    let interaction = u.interaction;
-    if u.output_count < limits.nodes {
+    let interaction = p.interaction;
+    if p.output_count < limit {
         let kept = activated(interaction, d, 0);
-        let mut out = queue(u, d);
+        let mut out = queue(p, d);
         out.interaction = kept;
         return out;
     }
     let lost = activated(interaction, d, 1);
-    let mut out = u;
+    let mut out = p;
     out.interaction = lost;
     out
 }
 
 // A release with a node, or none, under the pointer.
-fn release(u: Ui, hit: MaybeId) -> Ui
-    requires { ⌜ limitOf u ≤ 128 ⌝ }
-    ensures { λ r. ⌜ r ≡ releasedOn u hit (u .interaction .pressed) ⌝ }
+fn release(p: Parts, limit: u32, hit: MaybeId) -> Parts
+    requires { ⌜ limit ≤ 128 ⌝ }
+    ensures { λ r. ⌜ ((u : Ui) → limit ≡ limitOf u → heardAs u r ≡ releasedOn (heardAs u p) hit (p .interaction .pressed)) ⌝ }
 {
-    let interaction = u.interaction;
+    let interaction = p.interaction;
     let pressed = interaction.pressed;
     match pressed {
-        MaybeId::Absent => press(u, MaybeId::Absent),
+        MaybeId::Absent => press(p, MaybeId::Absent),
         MaybeId::Present(d) => {
             if state::is_id(hit, d) {
-                return activate(u, d);
+                return activate(p, limit, d);
             }
-            press(u, MaybeId::Absent)
+            press(p, MaybeId::Absent)
         }
     }
 }
@@ -188,19 +192,19 @@ fn folded(a: Interaction, d: NodeId, key: Key, changed: bool) -> Interaction
 }
 
 // A key on the node's field, where it has one.
-fn edit_field(u: Ui, d: NodeId, key: Key) -> Ui
-    ensures { λ r. ⌜ r ≡ events.editField u d key (fieldOf d (u .fields)) ⌝ }
+fn edit_field(p: Parts, d: NodeId, key: Key) -> Parts
+    ensures { λ r. ⌜ ((u : Ui) → heardAs u r ≡ events.editField (heardAs u p) d key (fieldOf d (p .fields))) ⌝ }
 {
-    let own = u.fields;
+    let own = p.fields;
     match fields::field_place(own, d) {
-        Place::Nowhere => u,
+        Place::Nowhere => p,
         Place::At(i) => {
             let f = fields::field_at(own, i);
             let g = keyed(f, key);
             let next = fields::with_field(own, i, g);
-            let interaction = u.interaction;
+            let interaction = p.interaction;
             let after = folded(interaction, d, key, has_changed(f, g));
-            let mut out = u;
+            let mut out = p;
             out.fields = next;
             out.interaction = after;
             out
@@ -208,35 +212,80 @@ fn edit_field(u: Ui, d: NodeId, key: Key) -> Ui
     }
 }
 
-// A key on the field of the node in focus, where the node is live.
-fn edit_focused(u: Ui, key: Key) -> Ui
-    ensures { λ r. ⌜ r ≡ editFocused u key (u .interaction .focus) ⌝ }
+// What an event changes of a tree.
+fn parts_of(u: Ui) -> Parts
+    ensures { λ r. ⌜ r ≡ partsOf u ⌝ }
+{
+    let interaction = u.interaction;
+    let fields = u.fields;
+    let outputs = u.outputs;
+    Parts {
+        interaction: interaction,
+        fields: fields,
+        outputs: outputs,
+        output_count: u.output_count,
+    }
+}
+
+// Whether the node in focus is live.
+fn focused(u: Ui) -> bool
+    ensures { λ r. ⌜ r ≡ hasLive u (u .interaction .focus) ⌝ }
 {
     let interaction = u.interaction;
     let focus = interaction.focus;
     match focus {
-        MaybeId::Absent => u,
+        MaybeId::Absent => false,
         MaybeId::Present(d) => {
             let limits = u.limits;
             let slots = u.slots;
-            if links::is_live(limits.nodes, slots, d) {
-                return edit_field(u, d, key);
-            }
-            u
+            links::is_live(limits.nodes, slots, d)
         }
     }
 }
 
-// An event, with the node that is under the pointer before it.
-pub(crate) fn heard(u: Ui, hit: MaybeId, event: UiEvent) -> Ui
-    requires { ⌜ limitOf u ≤ 128 ⌝ }
-    ensures { λ r. ⌜ r ≡ events.heard u hit event ⌝ }
+// A key on the field of the node in focus, where the node is live.
+fn edit_focused(p: Parts, live: bool, key: Key) -> Parts
+    ensures { λ r. ⌜ ((u : Ui) → live ≡ hasLive u (p .interaction .focus) → heardAs u r ≡ editFocused (heardAs u p) key (p .interaction .focus)) ⌝ }
+{
+    let interaction = p.interaction;
+    let focus = interaction.focus;
+    match focus {
+        MaybeId::Absent => p,
+        MaybeId::Present(d) => {
+            if live {
+                return edit_field(p, d, key);
+            }
+            p
+        }
+    }
+}
+
+// Where the pointer is after an event.
+pub(crate) fn place(pointer: Pointer, event: UiEvent) -> Pointer
+    ensures { λ r. ⌜ ((u : Ui) (hit : MaybeId) → u .interaction .pointer ≡ pointer → events.heard u hit event .interaction .pointer ≡ r) ⌝ }
 {
     match event {
-        UiEvent::PointerMoved { x, y } => point(u, x, y),
-        UiEvent::PointerPressed => press(u, hit),
-        UiEvent::PointerReleased => release(u, hit),
-        UiEvent::TextEntered { ch } => edit_focused(u, Key::Char(ch)),
-        UiEvent::Edit { op } => edit_focused(u, Key::Op(op)),
+        UiEvent::PointerMoved { x, y } => Pointer { x: x, y: y },
+        UiEvent::PointerPressed => pointer,
+        UiEvent::PointerReleased => pointer,
+        UiEvent::TextEntered { ch: _ } => pointer,
+        UiEvent::Edit { op: _ } => pointer,
+    }
+}
+
+// An event, with the node that is under the pointer.
+pub(crate) fn heard(u: Ui, hit: MaybeId, event: UiEvent) -> Parts
+    requires { ⌜ limitOf u ≤ 128 ⌝ }
+    ensures { λ r. ⌜ heardAs u r ≡ events.heard u hit event ⌝ }
+{
+    let p = parts_of(u);
+    let live = focused(u);
+    let limits = u.limits;
+    match event {
+        UiEvent::PointerMoved { x, y } => point(p, x, y),
+        UiEvent::PointerPressed => press(p, hit),
+        UiEvent::PointerReleased => release(p, limits.nodes, hit),
+        UiEvent::TextEntered { ch } => edit_focused(p, live, Key::Char(ch)),
+        UiEvent::Edit { op } => edit_focused(p, live, Key::Op(op)),
     }
 }

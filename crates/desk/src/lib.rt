@@ -10,10 +10,12 @@ ghost use Rattle.desk.specs.Answers.{takenOf, fingerprintOf};
 ghost use Rattle.desk.specs.Events as calls;
 use arithmetic::fold::StateHash;
 use field::EditOp;
+use field::Field;
 use field::NodeId;
 use field::metres::Metres;
 use text::refusal::Refusal;
 use text::refusal::Verdict;
+use tree::Interaction;
 use tree::Ui;
 use tree::answers::Changed;
 use tree::answers::Neighbour;
@@ -36,6 +38,14 @@ pub enum UiEvent {
 pub enum Key {
     Char(u32),
     Op(EditOp),
+}
+
+// What an event changes of a tree, before the bits are refreshed.
+pub(crate) struct Parts {
+    pub interaction: Interaction,
+    pub fields: [Field; 8],
+    pub outputs: [NodeId; 128],
+    pub output_count: u32,
 }
 
 // The oldest output is taken: its node, or none, and the tree without it.
@@ -63,8 +73,14 @@ pub fn handle(mut u: Ui, event: UiEvent) -> Changed
     let interaction = u.interaction;
     let pixel = interaction.pointer;
     let hit = input::hit_test(u, pixel);
-    u = events::heard(u, hit, event);
-    let after = u.interaction;
+    let parts = events::heard(u, hit, event);
+    let after = parts.interaction;
+    let fields = parts.fields;
+    let outputs = parts.outputs;
+    u.interaction = after;
+    u.fields = fields;
+    u.outputs = outputs;
+    u.output_count = parts.output_count;
     let place = after.pointer;
     let hover = input::hit_test(u, place);
     u = wearing::refresh_states(u, hover);

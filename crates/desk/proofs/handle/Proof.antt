@@ -1,6 +1,7 @@
 -- By its test; then each step by its contract. Assumes nothing.
 use mathlib.Core.Path.{sym, _∙_}
 use Rattle.tree.specs.Calls.{guarded}
+use Rattle.tree.specs.Trees.{withHeard}
 use Rattle.tree.proofs.Standings.{few-slots}
 use Rattle.desk.specs.Events.{handle, handled, hitOf}
 use borrow.Author.Needs.{needs}
@@ -27,8 +28,8 @@ refresh-states-requires : tie.Need-refresh-states-requires
 refresh-states-requires c κs = search needs
 
 returns-2 : tie.Need-returns-2
-unfolding handle guarded handled hitOf
-returns-2 c = rw (sym (c .before .before .before .before .before .before .before .before .before .broken .ensures) ∙ c .before .before .before .before .before .before .before .before .if1 .left, ← (c .before .before .before .before .before .hit-test .ensures), ← (c .before .before .before .before .heard .ensures), ← (c .before .hit-test2 .ensures), ← (c .refresh-states .ensures))
+unfolding handle guarded handled hitOf withHeard
+returns-2 c = rw (sym (c .before .before .before .before .before .before .before .before .before .before .before .broken .ensures) ∙ c .before .before .before .before .before .before .before .before .before .before .if1 .left, ← (c .before .before .before .before .before .before .before .hit-test .ensures), ← (c .before .before .before .before .before .before .heard .ensures), ← (c .before .hit-test2 .ensures), ← (c .refresh-states .ensures))
 
 pub handle-spec : {M : Type 1} → statement M
 handle-spec =

@@ -3,7 +3,7 @@ use mathlib.Core.Path.{_≡_, sym, ap, _∙_}
 use lib.ListN.{set}
 use Rattle.tree.specs.Fields.{owns, changeFirst}
 use Rattle.tree.specs.Places.{placeOf}
-use Rattle.tree.specs.Trees.{withInteraction, withFields}
+use Rattle.tree.specs.Trees.{withInteraction, withFields, withHeard}
 use Rattle.tree.specs.declared.fields.Place.the-variants.{At}
 use Rattle.tree.proofs.Places.{the-place-is-changed}
 use Rattle.desk.specs.Events.{keyedField, editFold}
@@ -36,16 +36,17 @@ folded-requires : tie.Need-folded-requires
 folded-requires c κs = search needs
 
 returns : tie.Need-returns
-returns c = rw (← (c .before .before .field-place .ensures .1), c .enum-told .given .1)
+unfolding withHeard
+returns c w = rw (← (c .before .before .field-place .ensures .1), c .enum-told .given .1)
 
 returns-2 : tie.Need-returns-2
-unfolding withInteraction withFields editFold
-returns-2 c = let u = c .before .before .before .before .before .before .before .before .before .before .before .args .u in
+unfolding withInteraction withFields withHeard editFold
+returns-2 c w = let p = c .before .before .before .before .before .before .before .before .before .before .before .args .p in
     let d = c .before .before .before .before .before .before .before .before .before .before .before .args .d in
     let key = c .before .before .before .before .before .before .before .before .before .before .before .args .key in
     let i = c .before .before .before .before .before .before .before .i .given .0 .0 in
-    let p : placeOf d (u .fields) ≡ At i = sym (c .before .before .before .before .before .before .before .before .before .field-place .ensures .0) ∙ c .before .before .before .before .before .before .before .i .given .1 in
-    let fs : c .before .before .before .with-field .result ≡ changeFirst (owns d) (keyedField key) (u .fields) = c .before .before .before .with-field .ensures ∙ ap (set (u .fields) i) (c .before .before .before .before .keyed .ensures ∙ ap (keyedField key) (c .before .before .before .before .before .field-at .ensures)) ∙ the-place-is-changed d (keyedField key) (u .fields) i p in
+    let h : placeOf d (p .fields) ≡ At i = sym (c .before .before .before .before .before .before .before .before .before .field-place .ensures .0) ∙ c .before .before .before .before .before .before .before .i .given .1 in
+    let fs : c .before .before .before .with-field .result ≡ changeFirst (owns d) (keyedField key) (p .fields) = c .before .before .before .with-field .ensures ∙ ap (set (p .fields) i) (c .before .before .before .before .keyed .ensures ∙ ap (keyedField key) (c .before .before .before .before .before .field-at .ensures)) ∙ the-place-is-changed d (keyedField key) (p .fields) i h in
     rw (← (c .before .before .before .before .before .before .before .before .before .field-place .ensures .1), c .before .before .before .before .before .before .before .i .given .1, ← fs, ← (c .before .before .before .before .before .field-at .ensures), ← (c .before .before .before .before .keyed .ensures), ← (c .before .has-changed .ensures), ← (c .folded .ensures))
 
 pub edit-field-spec : {M : Type 1} → statement M

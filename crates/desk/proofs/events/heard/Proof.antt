@@ -1,9 +1,19 @@
--- By the kind of the event. Assumes nothing.
+-- By the kind of the event; the tree with its own parts is itself. Assumes nothing.
 use mir.Syntax.{w32}
 use mir.ValLaws.{toZ-ofZ}
+use mathlib.Core.Path.{refl, sym, ap, _∙_}
+use Rattle.tree.specs.Trees.{withHeard}
+use Rattle.desk.specs.Parts.{hasLive}
+use Rattle.desk.specs.declared.Parts.{Parts}
 use borrow.Author.Needs.{needs}
 use Rattle.desk.proofs.events.heard.Statement.{statement}
 use Rattle.desk.proofs.events.heard.Tie as tie
+
+parts-of-requires : tie.Need-parts-of-requires
+parts-of-requires c κs = search needs
+
+focused-requires : tie.Need-focused-requires
+focused-requires c κs = search needs
 
 enum-known-event : tie.Need-enum-known-event
 enum-known-event c = search needs
@@ -36,24 +46,31 @@ edit-focused-requires-2 : tie.Need-edit-focused-requires-2
 edit-focused-requires-2 c κs = search needs
 
 returns : tie.Need-returns
-returns c = rw (c .before .before .event .given .1, ← toZ-ofZ w32 (c .before .before .event .given .0 .0) (record { sfits = c .before .known-told .given .0 .1 }), ← toZ-ofZ w32 (c .before .before .event .given .0 .1 .0) (record { sfits = c .before .known-told .given .1 .0 .1 })) (c .point .ensures)
+unfolding withHeard
+returns c = rw (c .before .before .event .given .1, ← toZ-ofZ w32 (c .before .before .event .given .0 .0) (record { sfits = c .before .known-told .given .0 .1 }), ← toZ-ofZ w32 (c .before .before .event .given .0 .1 .0) (record { sfits = c .before .known-told .given .1 .0 .1 })) (rw (c .before .before .before .before .before .before .parts-of .ensures) at (c .point .ensures (c .before .before .before .before .before .before .before .args .u)))
 
 returns-2 : tie.Need-returns-2
-returns-2 c = rw (c .before .enum-told .given .1) (c .press .ensures)
+unfolding withHeard
+returns-2 c = rw (c .before .enum-told .given .1) (rw (c .before .before .before .before .before .parts-of .ensures) at (c .press .ensures (c .before .before .before .before .before .before .args .u)))
 
 returns-3 : tie.Need-returns-3
-returns-3 c = rw (c .before .enum-told2 .given .1) (c .release .ensures)
+unfolding withHeard
+returns-3 c = rw (c .before .enum-told2 .given .1) (rw (c .before .before .before .before .before .parts-of .ensures) at (c .release .ensures (c .before .before .before .before .before .before .args .u) refl))
 
 returns-4 : tie.Need-returns-4
-returns-4 c = rw (c .before .before .event2 .given .1) (c .edit-focused .ensures)
+unfolding withHeard
+returns-4 c = rw (c .before .before .event2 .given .1) (rw (c .before .before .before .before .before .before .parts-of .ensures) at (c .edit-focused .ensures (c .before .before .before .before .before .before .before .args .u) (c .before .before .before .before .before .focused .ensures ∙ ap (λ (p : Parts). hasLive (c .before .before .before .before .before .before .before .args .u) (p .interaction .focus)) (sym (c .before .before .before .before .before .before .parts-of .ensures)))))
 
 returns-5 : tie.Need-returns-5
-returns-5 c = rw (c .before .before .event3 .given .1) (c .edit-focused2 .ensures)
+unfolding withHeard
+returns-5 c = rw (c .before .before .event3 .given .1) (rw (c .before .before .before .before .before .before .parts-of .ensures) at (c .edit-focused2 .ensures (c .before .before .before .before .before .before .before .args .u) (c .before .before .before .before .before .focused .ensures ∙ ap (λ (p : Parts). hasLive (c .before .before .before .before .before .before .before .args .u) (p .interaction .focus)) (sym (c .before .before .before .before .before .before .parts-of .ensures)))))
 
 pub heard-spec : {M : Type 1} → statement M
 heard-spec =
     tie.close
     (tie.spec
+    parts-of-requires
+    focused-requires
     enum-known-event
     point-requires
     enum-told

@@ -3,8 +3,9 @@ use mathlib.Core.Path.{sym, ap, _∙_}
 use Rattle.tree.specs.Tests.{pick}
 use mathlib.Core.Bool.{Bool}
 use Rattle.field.specs.declared.MaybeId.the-variants.{Absent}
-use Rattle.tree.specs.Trees.{withInteraction}
+use Rattle.tree.specs.Trees.{withInteraction, withHeard}
 use Rattle.desk.specs.Events.{pressedOn, activate, releasedOn}
+use Rattle.desk.specs.Parts.{heardAs}
 use borrow.Author.Needs.{needs}
 use Rattle.desk.proofs.events.release.Statement.{statement}
 use Rattle.desk.proofs.events.release.Tie as tie
@@ -25,22 +26,25 @@ activate-requires : tie.Need-activate-requires
 activate-requires c κs = search needs
 
 returns : tie.Need-returns
-returns c = let u = c .before .before .before .before .before .before .before .args .u in
+unfolding withHeard
+returns c w e = let u = heardAs w (c .before .before .before .before .before .before .before .args .p) in
     let hit = c .before .before .before .before .before .before .before .args .hit in
     let d = c .before .before .before .before .pressed .given .0 .0 in
-    c .activate .ensures ∙ ap (λ (b : Bool). pick b (activate u d) (withInteraction u (pressedOn (u .interaction) Absent))) (sym (c .before .if1 .taken) ∙ c .before .before .is-id .ensures) ∙ ap (releasedOn u hit) (sym (c .before .before .before .before .pressed .given .1))
+    c .activate .ensures w e ∙ ap (λ (b : Bool). pick b (activate u d) (withInteraction u (pressedOn (u .interaction) Absent))) (sym (c .before .if1 .taken) ∙ c .before .before .is-id .ensures) ∙ ap (releasedOn u hit) (sym (c .before .before .before .before .pressed .given .1))
 
 press-requires-2 : tie.Need-press-requires-2
 press-requires-2 c κs = search needs
 
 returns-2 : tie.Need-returns-2
-returns-2 c = c .press .ensures ∙ ap (releasedOn (c .before .before .before .before .args .u) (c .before .before .before .before .args .hit)) (sym (c .before .enum-told .given .1))
+unfolding withHeard
+returns-2 c w e = c .press .ensures w ∙ ap (releasedOn (heardAs w (c .before .before .before .before .args .p)) (c .before .before .before .before .args .hit)) (sym (c .before .enum-told .given .1))
 
 returns-3 : tie.Need-returns-3
-returns-3 c = let u = c .before .before .before .before .before .before .before .args .u in
+unfolding withHeard
+returns-3 c w e = let u = heardAs w (c .before .before .before .before .before .before .before .args .p) in
     let hit = c .before .before .before .before .before .before .before .args .hit in
     let d = c .before .before .before .before .pressed .given .0 .0 in
-    c .press2 .ensures ∙ ap (λ (b : Bool). pick b (activate u d) (withInteraction u (pressedOn (u .interaction) Absent))) (sym (c .before .if1 .left) ∙ c .before .before .is-id .ensures) ∙ ap (releasedOn u hit) (sym (c .before .before .before .before .pressed .given .1))
+    c .press2 .ensures w ∙ ap (λ (b : Bool). pick b (activate u d) (withInteraction u (pressedOn (u .interaction) Absent))) (sym (c .before .if1 .left) ∙ c .before .before .is-id .ensures) ∙ ap (releasedOn u hit) (sym (c .before .before .before .before .pressed .given .1))
 
 pub release-spec : {M : Type 1} → statement M
 release-spec =
