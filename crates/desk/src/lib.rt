@@ -71,7 +71,8 @@ pub fn handle(mut u: Ui, event: UiEvent) -> Changed
         };
     }
     let interaction = u.interaction;
-    let pixel = interaction.pointer;
+    let pointer = interaction.pointer;
+    let pixel = events::place(pointer, event);
     let hit = input::hit_test(u, pixel);
     let parts = events::heard(u, hit, event);
     let after = parts.interaction;
@@ -81,9 +82,7 @@ pub fn handle(mut u: Ui, event: UiEvent) -> Changed
     u.fields = fields;
     u.outputs = outputs;
     u.output_count = parts.output_count;
-    let place = after.pointer;
-    let hover = input::hit_test(u, place);
-    u = wearing::refresh_states(u, hover);
+    u = wearing::refresh_states(u, hit);
     Changed {
         verdict: Verdict::Accepted,
         tree: u,

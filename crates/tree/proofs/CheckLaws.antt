@@ -12,12 +12,7 @@ use Rattle.tree.specs.declared.Slot.{Slot}
 use Rattle.tree.specs.Slots.{NIL, Slots, at, chain, kidsAt, order}
 use Rattle.tree.specs.Rules.{aliveness, once, nodeWell, freeWell, eachOnce, linked}
 use Rattle.tree.specs.Lists.{Tallied}
-
-pub head-at : (d : ℕ) (l : List ℕ) (k : ℕ) → getD l k d ≡ headOr d (drop k l)
-head-at d [] zero = refl
-head-at d [] (suc k) = refl
-head-at d (x ∷ l) zero = refl
-head-at d (x ∷ l) (suc k) = head-at d l k
+use Rattle.tree.proofs.TestLaws.{and-joined}
 
 -- the slot at k and those after it
 split : (l : List ℕ) (k : ℕ) → k < length l → drop k l ≡ getD l k 0 ∷ drop (k + 1) l
@@ -61,10 +56,6 @@ front-at l zero k h = absurd (omega arith)
 front-at [] (suc n) k h = refl
 front-at (x ∷ l) (suc n) zero h = refl
 front-at (x ∷ l) (suc n) (suc k) h = front-at l n k (omega arith)
-
-and-joined : (a b c : Bool) → ((a && b) && c) ≡ (a && (b && c))
-and-joined true b c = refl
-and-joined false b c = refl
 
 -- ---- all link rules
 pub links-whole : (n : ℕ) (s : Slots) (head live : ℕ) {r f : List ℕ} {root each nodes chained : Bool} {c : ℕ}

@@ -154,22 +154,6 @@ listed-here o k d h q =
     ∙ List·getD-append (take (o .count) (o .items)) (drop (o .count) (o .items)) 0 k (omega arith)
     ∙ inside (take (o .count) (o .items)) k 0 d (omega arith)
 
--- the last of a list
-final-at : (l : List ℕ) (d e n : ℕ) → length l ≡ suc n → finalOr e l ≡ getD l n d
-final-at [] d e n h = absurd (omega arith)
-final-at (i ∷ []) d e zero h = refl
-final-at (i ∷ []) d e (suc n) h = absurd (omega arith)
-final-at (i ∷ j ∷ l) d e zero h = absurd (omega arith)
-final-at (i ∷ j ∷ l) d e (suc n) h = final-at (j ∷ l) d i n (omega arith)
-
-pub final-none : (l : List ℕ) (d : ℕ) {n : ℕ} → n ≡ length l → n ≡ 0 → d ≡ finalOr d l
-final-none [] d e h = refl
-final-none (i ∷ l) d e h = absurd (omega arith)
-
-pub final-listed : (l : List ℕ) (d : ℕ) {n : ℕ} → n ≡ length l → (n ≡ 0 → ⊥) → getD l (n - 1) d ≡ finalOr d l
-final-listed l d {n = zero} e h = absurd (h refl)
-final-listed l d {n = suc n} e h = rw sub-one (sym (final-at l d d n (sym e)))
-
 -- ---- a loop that frees by a list
 pub one-more : {A : Type 0} (l : List ℕ) (k : ℕ) (f : List ℕ → A) → k < length l → f (getD l k 0 ∷ drop (k + 1) l) ≡ f (drop k l)
 one-more l k f h =

@@ -22,16 +22,6 @@ module _ (s : Slots) where
   chain-more zero o c h q = absurd (omega arith)
   chain-more (suc n) o c h q = rw (sub-one, lt-ltb _ _ q)
 
-  pub chain-end : (n : ℕ) (o : Order) (c : ℕ) → 128 ≤ c → addedAll o (chain n s c) ≡ o
-  unfolding chain addedAll
-  chain-end zero o c q = refl
-  chain-end (suc n) o c q = rw (le-ltb _ _ q)
-
-  pub chain-done : (n : ℕ) (o : Order) (c : ℕ) → n ≤ 0 → addedAll o (chain n s c) ≡ o
-  unfolding chain addedAll
-  chain-done zero o c q = refl
-  chain-done (suc n) o c q = absurd (omega arith)
-
   chain-short : (n : ℕ) (c : ℕ) → length (chain n s c) ≤ n
   unfolding chain
   chain-short zero c = omega arith

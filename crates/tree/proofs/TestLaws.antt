@@ -1,11 +1,15 @@
 -- Equality of numbers as a test, and as a count of 0 or 1. Assumes nothing.
 use mathlib.Core.Path.{_≡_, refl, sym, subst}
 use mathlib.Core.Logic.{_≢_, _⊎_, inl, inr}
-use mathlib.Core.Bool.{Bool, true, false}
+use mathlib.Core.Bool.{Bool, true, false, _&&_}
 use Prim.Native.Nat.{ℕ, zero, suc, _≤_, _<_}
 use lib.Dec.{T, eqb, eqb→eq, eqb-refl}
 use native.Mathlib.Omega.{arith}
 use Rattle.tree.specs.Tests.{pick, same, δ}
+
+pub and-joined : (a b c : Bool) → ((a && b) && c) ≡ (a && (b && c))
+and-joined true b c = refl
+and-joined false b c = refl
 
 pub same-cases : (i j : ℕ) → ((i ≡ j) × (same i j ≡ true)) ⊎ ((i ≢ j) × (same i j ≡ false))
 unfolding same

@@ -14,7 +14,7 @@ use Rattle.tree.specs.declared.links.Order.{Order}
 use Rattle.tree.specs.Slots.{NIL, Slots, at, chain, kidsAt, order}
 use Rattle.tree.specs.Lists.{listed, orderOf, noneListed, added, addedAll, Small, Tallied}
 use Rattle.tree.specs.Rules.{kidsWell, nodeWell, freeWell}
-use Rattle.tree.proofs.TestLaws.{eq-cases, same-refl, δ-le}
+use Rattle.tree.proofs.TestLaws.{and-joined, eq-cases, same-refl, δ-le}
 use Rattle.tree.proofs.ListLaws.{Kept, lt-cases, added-kept, added-where-there-is-room, listed-all, listed-length, listed-here, listed-from-none}
 use Rattle.tree.proofs.QueueLaws.{reached, reached-start, reached-more, reached-done, take-take, chain-listed}
 use Rattle.tree.proofs.QueueLaws as queue
@@ -91,10 +91,6 @@ rest-end s node z pv k c e = rw e (go (same c NIL) (same z pv))
 rest-whole : (s : Slots) (i : ℕ) → rest s i (at s i .«last_child») NIL 128 (at s i .«first_child») ≡ nodeWell s i
 unfolding rest nodeWell kidsAt
 rest-whole s i = refl
-
-and-joined : (a b c : Bool) → ((a && b) && c) ≡ (a && (b && c))
-and-joined true b c = refl
-and-joined false b c = refl
 
 pub all-one-further : (p : ℕ → Bool) (l : List ℕ) (m : ℕ) → m < length l → all p (take (m + 1) l) ≡ (all p (take m l) && p (getD l m 0))
 all-one-further p l m h = let e : m + 1 ≡ suc m = omega arith in ap (λ (n : ℕ). all p (take n l)) e ∙ ap (all p) (take-suc l m 0 h) ∙ go (take m l)

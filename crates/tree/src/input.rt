@@ -30,18 +30,6 @@ fn held(l: LayoutSlot, pixel: Pointer, i: u32, d: u32) -> u32
     d
 }
 
-// A slot's first child; past the array 0, as a read there gives.
-pub fn first_child(slots: [Slot; 128], i: u32) -> u32
-    ensures { λ r. ⌜ r ≡ links.at slots i .«first_child» ⌝ }
-{
-    if i >= 128 {
-        return 0;
-    }
-    let k = i as usize;
-    let s = slots[k];
-    s.first_child
-}
-
 // From the root down, at most 128 times: to the last child whose box holds the pixel, until none does. `found` is the last so far of the
 // children of `at`, or `at` itself.
 fn descend(slots: [Slot; 128], layout: [LayoutSlot; 128], pixel: Pointer) -> u32

@@ -10,6 +10,7 @@ use Rattle.tree.specs.Trees.{limitOf, statedOf}
 use Rattle.tree.specs.Rules.{linked, linksWell, stateWell, distinct, ownersWell, broken}
 use Rattle.tree.specs.declared.Ui.{Ui}
 use borrow.Author.Needs.{needs}
+use Rattle.tree.proofs.TestLaws.{and-joined}
 use Rattle.tree.proofs.rules.broken.Statement.{statement}
 use Rattle.tree.proofs.rules.broken.Tie as tie
 use Rattle.tree.proofs.rules.broken.Reads as reads
@@ -20,17 +21,13 @@ use Rattle.tree.proofs.rules.links_well.Reads as links-well-reads
 use Rattle.tree.proofs.state.stated_well.Reads as stated-well-reads
 use Rattle.tree.proofs.state.states_well.Reads as states-well-reads
 
-regrouped : (a b c : Bool) → ((a && b) && c) ≡ (a && (b && c))
-regrouped true b c = refl
-regrouped false b c = refl
-
 rule-by-rule : (u : Ui) {l w s o t : Bool} → l ≡ linked (limitOf u) (u .slots) (u .free) (u .live) → w ≡ all (stateWell (u .«patch_count»)) (take (limitOf u) (u .states)) → s ≡ (leb (u .«stated_count») 3 && distinct (limitOf u) (statedOf u))
     → o ≡ ownersWell (u .fields) → t ≡ all fieldOk (u .fields)
     → not ((leb 1 (limitOf u) && leb (limitOf u) 128) && (leb (u .«patch_count») 64 && (l && (w && (s && (leb (u .«output_count») (limitOf u) && (o && t))))))) ≡ broken u
 unfolding broken linksWell
 rule-by-rule u l w s o t =
     rw (l, w, s, o, t) (ap (λ (b : Bool). not ((leb 1 (limitOf u) && leb (limitOf u) 128) && (leb (u .«patch_count») 64 && (linked (limitOf u) (u .slots) (u .free) (u .live) && (all (stateWell (u .«patch_count»)) (take (limitOf u) (u .states)) && b)))))
-    (regrouped (leb (u .«stated_count») 3) (distinct (limitOf u) (statedOf u)) (leb (u .«output_count») (limitOf u) && (ownersWell (u .fields) && all fieldOk (u .fields)))))
+    (and-joined (leb (u .«stated_count») 3) (distinct (limitOf u) (statedOf u)) (leb (u .«output_count») (limitOf u) && (ownersWell (u .fields) && all fieldOk (u .fields)))))
 
 -- a limit above 128
 too-large : (u : Ui) → leb (limitOf u) 128 ≡ false → true ≡ broken u
