@@ -82,11 +82,7 @@ pub fn handle(mut u: Ui, event: UiEvent) -> Changed
     u.fields = fields;
     u.outputs = outputs;
     u.output_count = parts.output_count;
-    u = wearing::refresh_states(u, hit);
-    Changed {
-        verdict: Verdict::Accepted,
-        tree: u,
-    }
+    wearing::refresh_states(u, hit)
 }
 
 // The oldest waiting output, which no longer waits.

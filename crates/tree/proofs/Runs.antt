@@ -1,7 +1,10 @@
--- A short run by the definitions, with the source's answer: a slot that is reused has not the last node's field. Assumes nothing.
+-- Short runs by the definitions, with the source's answers: a slot that is reused has not the last node's field, and a node that comes
+-- after a pass makes another due. Assumes nothing.
 use Prim.Native.Nat.{ℕ}
 use mathlib.Core.Path.{_≡_, refl}
+use lib.IntN.{pos}
 use Rattle.field.specs.declared.NodeId.{NodeId}
+use Rattle.tree.specs.declared.Viewport.{Viewport}
 use Rattle.arithmetic.specs.Scalar.{stop, addSat, subSat, gapTimes, maxOf, unsignedOf}
 use Rattle.text.specs.Choice.{within}
 use Rattle.text.specs.Utf8.{isScalar, allScalars, encoded, encodedAll, encodedAs}
@@ -21,7 +24,15 @@ use Rattle.tree.specs.Calls.{guarded, onLive, newSlot, newSlots, fresh, 
 abbrev named : ℕ → ℕ → NodeId
 named i g = record { index = i; generation = g }
 
+abbrev view : Viewport
+view = record { width = pos 320; height = pos 200 }
+
 -- A node gets a field and goes, and the next takes its slot.
 pub a-reused-slot-has-no-field : fieldText (insert (remove (makeField (insert (newTree 2 .next) (named 0 1) .next) (named 1 1) .next) (named 1 1) .next) (named 0 1) .next) (named 1 2) .answer .number ≡ 8
 unfolding stop addSat subSat gapTimes maxOf unsignedOf within isScalar allScalars encoded encodedAll encodedAs leadOf stepOf runFrom isUtf8 scalarsFrom scalars backOf front stepBack stepForward emptyField inRange fieldOk moved cutOut putIn stepBackOf stepForwardOf editedIn edited inserted editAnswer insertAnswer shownOf textOf withText same δ withNodes withLooks withPool withStated withFields withPass withInteraction withWaiting at put change isLive chain chainBack kidsAt order linkAfter linkLast unlinkFrom unlink freeOrder freeing aged freed layoutAt stateAt entryOf patchStyle touches inPool wear bitsOf bitsAt wearAll slotIn bearing refreshed styledAt tabledAt bared bareAll fieldOf reclaimed claimed kidsWell nodeWell freeWell eachOnce linksWell linked stateWell distinct ownersWell broken guarded onLive newSlot newSlots fresh newTree insertAt insert resetStates removeAt remove setStyle setStateTable pooled setPatchPool makeField onField fieldText fieldCursor solve rect live firstChild nextSibling
 a-reused-slot-has-no-field = refl
+
+-- A pass, a node more, and a pass for the same viewport: two passes are counted.
+pub an-insert-makes-a-pass-due : solve (insert (solve (newTree 2 .next) view .next) (named 0 1) .next) view .next .«layout_passes» ≡ 2
+unfolding stop addSat subSat gapTimes maxOf unsignedOf within isScalar allScalars encoded encodedAll encodedAs leadOf stepOf runFrom isUtf8 scalarsFrom scalars backOf front stepBack stepForward emptyField inRange fieldOk moved cutOut putIn stepBackOf stepForwardOf editedIn edited inserted editAnswer insertAnswer shownOf textOf withText same δ withNodes withLooks withPool withStated withFields withPass withInteraction withWaiting at put change isLive chain chainBack kidsAt order linkAfter linkLast unlinkFrom unlink freeOrder freeing aged freed layoutAt stateAt entryOf patchStyle touches inPool wear bitsOf bitsAt wearAll slotIn bearing refreshed styledAt tabledAt bared bareAll fieldOf reclaimed claimed kidsWell nodeWell freeWell eachOnce linksWell linked stateWell distinct ownersWell broken guarded onLive newSlot newSlots fresh newTree insertAt insert resetStates removeAt remove setStyle setStateTable pooled setPatchPool makeField onField fieldText fieldCursor solve rect live firstChild nextSibling
+an-insert-makes-a-pass-due = refl

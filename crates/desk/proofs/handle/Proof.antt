@@ -38,7 +38,7 @@ returns-2 c = let u = c .before .before .before .before .before .before .before 
     let there : q ≡ heard u (hitOf u) event .interaction .pointer = sym (c .before .before .before .before .before .before .place .ensures u (hitOf u) refl) in
     let next : heard u (hitOf u) event ≡ heardAs u (c .before .before .before .before .heard .result) = hit-once u event q there ∙ ap (λ (h : MaybeId). heard u h event) (sym (c .before .before .before .before .before .hit-test .ensures)) ∙ sym (c .before .before .before .before .heard .ensures) in
     let hover : hitOf (heard u (hitOf u) event) ≡ c .before .before .before .before .before .hit-test .result = hover-once u event q there ∙ sym (c .before .before .before .before .before .hit-test .ensures) in
-    rw (sym (c .before .before .before .before .before .before .before .before .before .before .broken .ensures) ∙ c .before .before .before .before .before .before .before .before .before .if1 .left, hover, next, ← (c .refresh-states .ensures))
+    rw (sym (c .before .before .before .before .before .before .before .before .before .before .broken .ensures) ∙ c .before .before .before .before .before .before .before .before .before .if1 .left, hover, next) (c .refresh-states .ensures)
 
 pub handle-spec : {M : Type 1} → statement M
 handle-spec =
