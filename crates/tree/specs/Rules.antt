@@ -37,10 +37,11 @@ unfoldable pub freeWell : Slots → List ℕ → Bool
 freeWell s [] = true
 freeWell s (i ∷ is) = same (at s i .«next_sibling») (headOr NIL is) && freeWell s is
 
--- Live nodes are just those reached from the root, each once; the free chain holds each dead slot once; nothing else is in either.
+-- Slot i is in one of two lists once, and in the first just where it is live.
 abbrev pub once : Slots → List ℕ → List ℕ → ℕ → Bool
 once s reached free i = same (occ i reached) (aliveness (at s i)) && same (occ i reached + occ i free) 1
 
+-- Live nodes are just those reached from the root, each once; the free chain holds each dead slot once; nothing else is in either.
 unfoldable pub eachOnce : ℕ → Slots → List ℕ → List ℕ → Bool
 eachOnce n s reached free =
     all (once s reached free) (fromTo 0 n)

@@ -175,34 +175,25 @@ fn none_listed() -> Order
     }
 }
 
-// The last child of each slot.
-fn last_links(slots: [Slot; 128]) -> [u32; 128]
-    ensures { λ r. ⌜ LinksOf slots (λ (s : Slot). s .«last_child») r ⌝ }
-{
-    let mut out = [0u32; 128];
-    let mut i: u32 = 0;
-    while i < 128 {
-        let s = slot_at(slots, i);
-        let k = i as usize;
-        out[k] = s.last_child;
-        i += 1;
-    }
-    out
+// The links back of each slot: to its last child and to its previous sibling.
+struct LinksBack {
+    last: [u32; 128],
+    prev: [u32; 128],
 }
 
-// The previous sibling of each slot.
-fn prev_links(slots: [Slot; 128]) -> [u32; 128]
-    ensures { λ r. ⌜ LinksOf slots (λ (s : Slot). s .«prev_sibling») r ⌝ }
+fn links_back(slots: [Slot; 128]) -> LinksBack
+    ensures { λ r. ⌜ LinksOf slots (λ (s : Slot). s .«last_child») (r .last) × LinksOf slots (λ (s : Slot). s .«prev_sibling») (r .prev) ⌝ }
 {
-    let mut out = [0u32; 128];
-    let mut i: u32 = 0;
+    let mut last = [0u32; 128];
+    let mut prev = [0u32; 128];
+    let mut i: usize = 0;
     while i < 128 {
-        let s = slot_at(slots, i);
-        let k = i as usize;
-        out[k] = s.prev_sibling;
+        let s = slots[i];
+        last[i] = s.last_child;
+        prev[i] = s.prev_sibling;
         i += 1;
     }
-    out
+    LinksBack { last, prev }
 }
 
 // The link of slot i.
@@ -254,8 +245,9 @@ fn list_freed(
 pub(crate) fn freed_order(slots: [Slot; 128], node: u32) -> Order
     ensures { λ r. ⌜ (r .count ≤ 128) × (listed r ≡ take 128 (freeOrder 128 slots node)) ⌝ }
 {
-    let last = last_links(slots);
-    let prev = prev_links(slots);
+    let back = links_back(slots);
+    let last = back.last;
+    let prev = back.prev;
     let none = none_listed();
     let mut items = none.items;
     let n = list_freed(&last, &prev, &mut items, none.count, node, 128);

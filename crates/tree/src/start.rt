@@ -3,6 +3,7 @@ ghost use mathlib.Core.Path.{_≡_};
 ghost use mathlib.Core.Bool.{false};
 ghost use lib.ListN.{replicate};
 ghost use Rattle.tree.specs.Calls.{newSlot, newSlots, fresh, nobody};
+ghost use Rattle.tree.specs.Slots.{NIL};
 ghost use Rattle.tree.specs.Styles.{freshStyle, freshLayout, freshState};
 ghost use Rattle.field.specs.Fields.{emptyField};
 use crate::Align;
@@ -26,20 +27,27 @@ use field::NodeId;
 
 const NIL: u32 = 4294967295;
 
+// A slot of generation 1 without neighbours, but for the next.
+fn first_slot(live: bool, next: u32) -> Slot
+    ensures { λ r. ⌜ r ≡ record { generation = 1; live = live; parent = NIL; «first_child» = NIL; «last_child» = NIL; «prev_sibling» = NIL; «next_sibling» = next } ⌝ }
+{
+    Slot {
+        generation: 1,
+        live: live,
+        parent: NIL,
+        first_child: NIL,
+        last_child: NIL,
+        prev_sibling: NIL,
+        next_sibling: next,
+    }
+}
+
 // Slot `i` of a fresh tree: the root, a slot of the free chain, or past the limit.
 fn new_slot(n: u32, i: u32) -> Slot
     ensures { λ r. ⌜ r ≡ newSlot n i ⌝ }
 {
     if i == 0 {
-        return Slot {
-            generation: 1,
-            live: true,
-            parent: NIL,
-            first_child: NIL,
-            last_child: NIL,
-            prev_sibling: NIL,
-            next_sibling: NIL,
-        };
+        return first_slot(true, NIL);
     }
     if n <= i {
         return Slot {
@@ -53,25 +61,9 @@ fn new_slot(n: u32, i: u32) -> Slot
         };
     }
     if n - 1 <= i {
-        return Slot {
-            generation: 1,
-            live: false,
-            parent: NIL,
-            first_child: NIL,
-            last_child: NIL,
-            prev_sibling: NIL,
-            next_sibling: NIL,
-        };
+        return first_slot(false, NIL);
     }
-    Slot {
-        generation: 1,
-        live: false,
-        parent: NIL,
-        first_child: NIL,
-        last_child: NIL,
-        prev_sibling: NIL,
-        next_sibling: i + 1,
-    }
+    first_slot(false, i + 1)
 }
 
 fn new_slots(n: u32) -> [Slot; 128]

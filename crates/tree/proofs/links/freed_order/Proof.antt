@@ -10,11 +10,8 @@ use borrow.Author.Needs.{needs}
 use Rattle.tree.proofs.links.freed_order.Statement.{statement}
 use Rattle.tree.proofs.links.freed_order.Tie as tie
 
-last-links-requires : tie.Need-last-links-requires
-last-links-requires c κs = search needs
-
-prev-links-requires : tie.Need-prev-links-requires
-prev-links-requires c κs = search needs
+links-back-requires : tie.Need-links-back-requires
+links-back-requires c κs = search needs
 
 none-listed-requires : tie.Need-none-listed-requires
 none-listed-requires c κs = search needs
@@ -30,16 +27,16 @@ list-freed-requires c κs = search needs
 
 returns : tie.Need-returns
 returns c =
-    let l : List ℕ = freeOrder 128 (c .before .before .before .before .before .before .before .before .args .slots) (c .before .before .before .before .before .before .before .before .args .node) in
-    listed-by-a-walk (orderOf _ _) l
-    (c .list-freed .ensures _ (c .before .before .before .before .before .before .before .last-links .ensures) (c .before .before .before .before .before .before .prev-links .ensures) ∙ ap (λ (o : Order). addedAll o l) (c .before .before .before .before .before .none-listed .ensures))
+    let a = c .before .before .before .before .before .before .before .before .before .args in
+    let l : List ℕ = freeOrder 128 (a .slots) (a .node) in
+    let back = c .before .before .before .before .before .before .before .before .links-back .ensures in
+    listed-by-a-walk (orderOf _ _) l (c .list-freed .ensures _ (back .0) (back .1) ∙ ap (λ (o : Order). addedAll o l) (c .before .before .before .before .before .none-listed .ensures))
 
 pub freed-order-spec : {M : Type 1} → statement M
 freed-order-spec =
     tie.close
     (tie.spec
-    last-links-requires
-    prev-links-requires
+    links-back-requires
     none-listed-requires
     slice-aggregate-list-freed
     slice-aggregate-list-freed-2

@@ -36,8 +36,11 @@ inner n (suc i) z h =
     let b : suc (suc i) < n = omega arith in
     let e : suc i + 1 ≡ suc (suc i) = omega arith in rw (lt-ltb (suc i) n a, lt-ltb (suc (suc i)) n b, e)
 
+first-slot-requires : tie.Need-first-slot-requires
+first-slot-requires c κs = search needs
+
 returns : tie.Need-returns
-returns c = root _ _ (search needs)
+returns c = c .first-slot .ensures ∙ root (c .before .before .args .n) (c .before .before .args .i) (c .before .if1 .taken)
 
 returns-2 : tie.Need-returns-2
 returns-2 c = outside _ _ (omega arith) (search needs)
@@ -45,14 +48,31 @@ returns-2 c = outside _ _ (omega arith) (search needs)
 sub-if3 : tie.Need-sub-if3
 sub-if3 c = search needs
 
-returns-3 : tie.Need-returns-3
-returns-3 c = last _ _ (omega arith) (omega arith) (omega arith)
+first-slot-requires-2 : tie.Need-first-slot-requires-2
+first-slot-requires-2 c κs = search needs
 
-add-t4 : tie.Need-add-t4
-add-t4 c = search needs
+returns-3 : tie.Need-returns-3
+returns-3 c = c .first-slot2 .ensures ∙ last (c .before .before .before .before .args .n) (c .before .before .before .before .args .i) (omega arith) (omega arith) (omega arith)
+
+add-first-slot : tie.Need-add-first-slot
+add-first-slot c = search needs
+
+first-slot-requires-3 : tie.Need-first-slot-requires-3
+first-slot-requires-3 c κs = search needs
 
 returns-4 : tie.Need-returns-4
-returns-4 c = inner _ _ (omega arith) (omega arith)
+returns-4 c = c .first-slot3 .ensures ∙ inner (c .before .before .before .before .args .n) (c .before .before .before .before .args .i) (omega arith) (omega arith)
 
 pub new-slot-spec : {M : Type 1} → statement M
-new-slot-spec = tie.close (tie.spec returns returns-2 sub-if3 returns-3 add-t4 returns-4)
+new-slot-spec =
+    tie.close
+    (tie.spec
+    first-slot-requires
+    returns
+    returns-2
+    sub-if3
+    first-slot-requires-2
+    returns-3
+    add-first-slot
+    first-slot-requires-3
+    returns-4)
