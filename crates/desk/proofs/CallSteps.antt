@@ -1,4 +1,4 @@
--- Each call is refused as the history judges, and an accepted one keeps the invariant. Assumes nothing.
+-- Each call is refused as the history says, and an accepted one keeps the invariant. Assumes nothing.
 use mathlib.Core.Path.{_≡_, refl, sym, ap, ap₂, subst, _∙_}
 use mathlib.Core.Logic.{_≢_}
 use mathlib.Core.Bool.{Bool, true, false, _&&_, _||_, not}
@@ -50,8 +50,8 @@ use Rattle.tree.proofs.ReadParts.{rect-answers-the-nodes-box, field-text-answer
 use Rattle.tree.proofs.FieldLaws.{a-field-is-vacant-or-every-field-is-a-live-nodes, a-node-with-a-text-has-a-field}
 use Rattle.tree.proofs.FieldParts.{texts-keep-dress, texts-keep-links, texts-keep-naming, retexted, a-field-stays, a-field-is-made}
 use Rattle.desk.specs.Events as desk
-use Rattle.desk.specs.Events.{handled, hitOf, heard, takeOldest}
-use Rattle.desk.specs.History.{History, Call, has, judge, judgeField, accept, note, withTree, grown, keepText, idNamed, fieldCount, rootId, hears, textSaid, caretSaid, metresSaid, rectSaid}
+use Rattle.desk.specs.Events.{handled, hitOf, appliedEvent, takeOldest}
+use Rattle.desk.specs.History.{History, Call, has, refusalOf, refusalOfField, accept, recorded, withTree, grown, keepText, idNamed, fieldCount, rootId, afterEvent, textSaid, caretSaid, metresSaid, rectSaid}
 use Rattle.desk.specs.History.Call.{insert, remove, setStyle, setStateTable, setPatchPool, makeField, solve, handle, nextOutput, fieldText, fieldCursor, metres, rect, live, firstChild, nextSibling, absorb}
 use Rattle.desk.specs.Demand3.{Step, step, silent, telling, Machine}
 use Rattle.desk.specs.declared.UiEvent.{UiEvent}
@@ -59,13 +59,13 @@ use Rattle.desk.specs.declared.UiEvent.the-variants.{PointerMoved, Point
 use Rattle.desk.specs.declared.Key.the-variants.{Char, Op}
 use Rattle.desk.proofs.Invariant.{Inv, NameIn, links-of-fields, dress-of-fields, pool-of-fields, queue-of-fields}
 use Rattle.desk.proofs.RefreshSteps.{refresh-keeps-all}
-use Rattle.desk.proofs.PointerSteps.{move-is-heard, press-is-heard, release-is-heard, waiting-by, waiting-length}
-use Rattle.desk.proofs.KeySteps.{key-is-heard}
+use Rattle.desk.proofs.PointerSteps.{move-agrees, press-agrees, release-agrees, waiting-by, waiting-length}
+use Rattle.desk.proofs.KeySteps.{key-agrees}
 
--- a call kept the invariant, and was refused as the history judges
+-- a call kept the invariant, and was refused as the history says
 pub record Kept (k : ℕ) (u : Ui) (h : History) (c : Call) : Type 0 where
-  pub judged-so : step u c .number ≡ judge h c
-  pub goes-on : Inv (suc k) (step u c .next) (note h c (step u c .told))
+  pub refused-so : step u c .number ≡ refusalOf h c
+  pub goes-on : Inv (suc k) (step u c .next) (recorded h c (step u c .told))
 
 pub inv-after : (k : ℕ) (u : Ui) (h : History) → Inv k u h → Inv (suc k) u h
 inv-after k u h v = record {
@@ -100,18 +100,18 @@ module _ (k : ℕ) (u : Ui) (h : History) (v : Inv k u h) where
   on-live-is d none o = guarded-is none _ ∙ ap (λ (b : Bool). pick b o (refuses u Missing none)) (live-just-where-a-node-has-it (v .links .rel) d)
 
   -- refused: nothing changes
-  refused-step : (c : Call) (n : ℕ) (d : NodeId) → step u c ≡ record { next = u; number = suc n; told = d } → judge h c ≡ suc n → Kept k u h c
-  unfolding note
+  refused-step : (c : Call) (n : ℕ) (d : NodeId) → step u c ≡ record { next = u; number = suc n; told = d } → refusalOf h c ≡ suc n → Kept k u h c
+  unfolding recorded
   refused-step c n d e j = record {
-    judged-so = ap (λ (s : Step). s .number) e ∙ sym j;
+    refused-so = ap (λ (s : Step). s .number) e ∙ sym j;
     goes-on = rw (e, j, same-no (suc n) 0 (λ z. omega arith)) (inv-after k u h v);
   }
 
   -- accepted: by the next tree and what the history makes of it
-  accepted-step : (c : Call) (u′ : Ui) (d : NodeId) → step u c ≡ record { next = u′; number = 0; told = d } → judge h c ≡ 0 → Inv (suc k) u′ (accept h c d) → Kept k u h c
-  unfolding note
+  accepted-step : (c : Call) (u′ : Ui) (d : NodeId) → step u c ≡ record { next = u′; number = 0; told = d } → refusalOf h c ≡ 0 → Inv (suc k) u′ (accept h c d) → Kept k u h c
+  unfolding recorded
   accepted-step c u′ d e j i = record {
-    judged-so = ap (λ (s : Step). s .number) e ∙ sym j;
+    refused-so = ap (λ (s : Step). s .number) e ∙ sym j;
     goes-on = rw (e, j, same-yes 0 0 refl) i;
   }
 
@@ -137,61 +137,61 @@ module _ (k : ℕ) (u : Ui) (h : History) (v : Inv k u h) where
       go nothing = refl
       go (just f) = e f
 
-  read-step : {A : Type 0} (c : Call) (o : Outcome A) → step u c ≡ silent o → o .next ≡ u → o .answer .number ≡ judge h c → accept h c nobody ≡ h → Kept k u h c
-  unfolding note
+  read-step : {A : Type 0} (c : Call) (o : Outcome A) → step u c ≡ silent o → o .next ≡ u → o .answer .number ≡ refusalOf h c → accept h c nobody ≡ h → Kept k u h c
+  unfolding recorded
   read-step c o e en ej ea = record {
-    judged-so = ap (λ (s : Step). s .number) e ∙ ej;
+    refused-so = ap (λ (s : Step). s .number) e ∙ ej;
     goes-on =
-        subst (λ (s : Step). Inv (suc k) (s .next) (pick (same (judge h c) 0) (accept h c (s .told)) h)) (sym e)
-        (subst (λ (w : Ui). Inv (suc k) w (pick (same (judge h c) 0) (accept h c nobody) h)) (sym en)
-        (bool-cases (same (judge h c) 0) (λ b. rw (b, ea) (inv-after k u h v)) (λ b. rw b (inv-after k u h v))));
+        subst (λ (s : Step). Inv (suc k) (s .next) (pick (same (refusalOf h c) 0) (accept h c (s .told)) h)) (sym e)
+        (subst (λ (w : Ui). Inv (suc k) w (pick (same (refusalOf h c) 0) (accept h c nobody) h)) (sym en)
+        (bool-cases (same (refusalOf h c) 0) (λ b. rw (b, ea) (inv-after k u h v)) (λ b. rw b (inv-after k u h v))));
   }
 
   text-read : (d : NodeId) → Kept k u h (fieldText d)
-  unfolding step judge accept textSaid tree.fieldText
+  unfolding step refusalOf accept textSaid tree.fieldText
   text-read d = read-step (fieldText d) (tree.fieldText u d) refl (next-of-field d tree.noText _ (λ f. refl))
       (ap (λ (a : Answer tree.Shown). a .number) (field-text-answers-the-nodes-text (v .links) sound (v .texts) d)) refl
 
   caret-read : (d : NodeId) → Kept k u h (fieldCursor d)
-  unfolding step judge accept caretSaid tree.fieldCursor
+  unfolding step refusalOf accept caretSaid tree.fieldCursor
   caret-read d = read-step (fieldCursor d) (tree.fieldCursor u d) refl (next-of-field d 0 _ (λ f. refl))
       (ap (λ (a : Answer ℕ). a .number) (field-cursor-answers-the-nodes-caret (v .links) sound (v .texts) d)) refl
 
   metres-read : (d : NodeId) → Kept k u h (metres d)
-  unfolding step judge accept metresSaid desk.metres
+  unfolding step refusalOf accept metresSaid desk.metres
   metres-read d = read-step (metres d) (desk.metres u d) refl (next-of-field d 0 _ (λ f. refl))
       (ap (λ (a : Answer ℕ). a .number) (metres-of-the-field-are-the-nodes (v .links) sound (v .texts) d)) refl
 
   rect-read : (d : NodeId) → Kept k u h (rect d)
-  unfolding step judge accept rectSaid tree.rect
+  unfolding step refusalOf accept rectSaid tree.rect
   rect-read d = read-step (rect d) (tree.rect u d) refl (next-of-live d _ _ refl)
       (ap (λ (a : Answer Rect). a .number) (rect-answers-the-nodes-box (v .links) sound (v .dress .boxed) d)) refl
 
   live-read : (d : NodeId) → Kept k u h (live d)
-  unfolding step judge accept tree.live
+  unfolding step refusalOf accept tree.live
   live-read d = read-step (live d) (tree.live u d) refl (next-of-guarded _ _ refl) (ap (λ (o : Outcome Bool). o .answer .number) (guarded-is false _)) refl
 
   first-read : (d : NodeId) → Kept k u h (firstChild d)
-  unfolding step judge accept tree.firstChild
+  unfolding step refusalOf accept tree.firstChild
   first-read d = read-step (firstChild d) (tree.firstChild u d) refl (next-of-guarded _ _ refl) (ap (λ (o : Outcome MaybeId). o .answer .number) (guarded-is Absent _)) refl
 
   next-read : (d : NodeId) → Kept k u h (nextSibling d)
-  unfolding step judge accept tree.nextSibling
+  unfolding step refusalOf accept tree.nextSibling
   next-read d =
       let o = gives u (tree.linked u (at (u .slots) (d .index) .«next_sibling»)) in
       read-step (nextSibling d) (tree.nextSibling u d) refl (next-of-live d _ _ refl)
       (ap (λ (q : Outcome MaybeId). q .answer .number) (on-live-is d Absent o) ∙ bool-cases (has h d) (λ b. rw b) (λ b. rw b)) refl
 
   absorb-read : (s : StateHash) → Kept k u h (absorb s)
-  unfolding step judge accept desk.absorb
+  unfolding step refusalOf accept desk.absorb
   absorb-read s = read-step (absorb s) (desk.absorb u s) refl (next-of-guarded _ _ refl) (ap (λ (o : Outcome ℕ). o .answer .number) (guarded-is 0 _)) refl
 
   -- ---- the oldest output
 
   output-taken : Kept k u h nextOutput
-  unfolding step judge accept desk.nextOutput note
+  unfolding step refusalOf accept desk.nextOutput recorded
   output-taken = record {
-    judged-so = ap (λ (o : Outcome MaybeId). o .answer .number) (guarded-is Absent (takeOldest u (waitingOf u))) ∙ number-is (waitingOf u);
+    refused-so = ap (λ (o : Outcome MaybeId). o .answer .number) (guarded-is Absent (takeOldest u (waitingOf u))) ∙ number-is (waitingOf u);
     goes-on =
         subst (λ (o : Outcome MaybeId). Inv (suc k) (o .next) (pick (same 0 0) h h)) (sym (guarded-is Absent (takeOldest u (waitingOf u))))
         (rw (same-yes 0 0 refl) (goes (waitingOf u) refl));
@@ -211,18 +211,18 @@ module _ (k : ℕ) (u : Ui) (h : History) (v : Inv k u h) where
 
   -- ---- events
 
-  hears-all : (e : UiEvent) → Inv k (heard u (hitOf u) e) (hears h e)
-  hears-all (PointerMoved x y) = move-is-heard k u h v x y
-  hears-all PointerPressed = press-is-heard k u h v
-  hears-all PointerReleased = release-is-heard k u h v
-  hears-all (TextEntered ch) = key-is-heard k u h v (Char ch)
-  hears-all (Edit op) = key-is-heard k u h v (Op op)
+  event-agrees : (e : UiEvent) → Inv k (appliedEvent u (hitOf u) e) (afterEvent h e)
+  event-agrees (PointerMoved x y) = move-agrees k u h v x y
+  event-agrees PointerPressed = press-agrees k u h v
+  event-agrees PointerReleased = release-agrees k u h v
+  event-agrees (TextEntered ch) = key-agrees k u h v (Char ch)
+  event-agrees (Edit op) = key-agrees k u h v (Op op)
 
   event-handled : (e : UiEvent) → Kept k u h (handle e)
-  unfolding step judge accept desk.handle handled
+  unfolding step refusalOf accept desk.handle handled
   event-handled e =
-      let w = heard u (hitOf u) e in
-      accepted-step (handle e) (handled u e) nobody (ap silent (guarded-is 0 (gives (handled u e) 0))) refl (refresh-keeps-all k w (hears h e) (hears-all e))
+      let w = appliedEvent u (hitOf u) e in
+      accepted-step (handle e) (handled u e) nobody (ap silent (guarded-is 0 (gives (handled u e) 0))) refl (refresh-keeps-all k w (afterEvent h e) (event-agrees e))
 
 -- what is said of equal outcomes
 silenced : (o q : Outcome ℕ) → o ≡ q → silent o ≡ silent q
@@ -274,7 +274,7 @@ module _ (k : ℕ) (u : Ui) (h : History) (v : Inv k u h) where
       }
 
   pub inserts : (d : NodeId) → Kept k u h (insert d)
-  unfolding step judge accept tree.insert
+  unfolding step refusalOf accept tree.insert
   inserts d =
       let room = pick (same (u .free) NIL) (refuses u Full nobody) (gives (insertAt u (d .index)) (idAt (u .slots) (u .free))) in
       let e = on-live-is k u h v d nobody room in
@@ -325,7 +325,7 @@ module _ (k : ℕ) (u : Ui) (h : History) (v : Inv k u h) where
       (λ e s _. rw s)
 
   pub removes : k < 2 ^ 63 → (d : NodeId) → Kept k u h (remove d)
-  unfolding step judge accept tree.remove
+  unfolding step refusalOf accept tree.remove
   removes small d =
       let o : Outcome ℕ = pick (same (d .index) 0) (refuses u Root 0) (gives (removeAt u (d .index)) 0) in
       let e = on-live-is k u h v d 0 o in
@@ -386,7 +386,7 @@ module _ (k : ℕ) (u : Ui) (h : History) (v : Inv k u h) where
       }
 
   pub styles : (d : NodeId) (s : Style) → Kept k u h (setStyle d s)
-  unfolding step judge accept tree.setStyle
+  unfolding step refusalOf accept tree.setStyle
   styles d s =
       let o : Outcome ℕ = gives (styledAt u (d .index) s) 0 in
       let e = on-live-is k u h v d 0 o in
@@ -429,7 +429,7 @@ module _ (k : ℕ) (u : Ui) (h : History) (v : Inv k u h) where
       }
 
   pub tables : (d : NodeId) (table : List ℕ) → Kept k u h (setStateTable d table)
-  unfolding step judge tree.setStateTable
+  unfolding step refusalOf tree.setStateTable
   tables d table =
       let o : Outcome ℕ = pick (all (inPool (u .«patch_count»)) table) (gives (tabledAt u (d .index) table) 0) (refuses u Foreign 0) in
       let e = on-live-is k u h v d 0 o in
@@ -464,7 +464,7 @@ module _ (k : ℕ) (u : Ui) (h : History) (v : Inv k u h) where
       }
 
   pub pools : (patches : List StatePatch) (count : ℕ) → length patches ≡ 64 → Kept k u h (setPatchPool patches count)
-  unfolding step judge tree.setPatchPool
+  unfolding step refusalOf tree.setPatchPool
   pools patches count long =
       let o : Outcome ℕ = pick (ltb 64 count) (refuses u Long 0) (gives (pooled u patches count) 0) in
       let e = guarded-is k u h v 0 o in
@@ -505,9 +505,9 @@ module _ (k : ℕ) (u : Ui) (h : History) (v : Inv k u h) where
         focus-named = v .focus-named;
       }
 
-  judge-of-field : (d : NodeId) (m : Maybe Info) → find d (h .tree) ≡ m → judge h (makeField d) ≡ judgeField h m
-  unfolding judge
-  judge-of-field d m q = ap (judgeField h) q
+  refusal-of-field : (d : NodeId) (m : Maybe Info) → find d (h .tree) ≡ m → refusalOf h (makeField d) ≡ refusalOfField h m
+  unfolding refusalOf
+  refusal-of-field d m q = ap (refusalOfField h) q
 
   abbrev TextOf : ℕ → ℕ → Info → Type 0
   TextOf i g x = x .text ≡ textIn (fieldOf (record { index = i; generation = g }) (u .fields))
@@ -518,7 +518,7 @@ module _ (k : ℕ) (u : Ui) (h : History) (v : Inv k u h) where
   on-a-node d hd w (just f) q e =
       let x = w .load in
       let hf : hasField x ≡ true = a-node-with-a-text-has-a-field x (just f) (w .holds ∙ ap textIn q) in
-      accepted-step k u h v (makeField d) u nobody (silenced (tree.makeField u d) (gives u 0) e) (judge-of-field d (just x) (w .found) ∙ rw hf)
+      accepted-step k u h v (makeField d) u nobody (silenced (tree.makeField u d) (gives u 0) e) (refusal-of-field d (just x) (w .found) ∙ rw hf)
       (subst (λ (t : Forest Info). Inv (suc k) u (withTree h t (h .board .dirty))) (sym (a-field-stays k u (h .tree) (v .links) (v .texts) d hd keepText refl (λ z. refl) f q)) (inv-after k u h v))
   on-a-node d hd w nothing q e =
       let x = w .load in
@@ -529,12 +529,12 @@ module _ (k : ℕ) (u : Ui) (h : History) (v : Inv k u h) where
       (λ z s.
       let l : 8 ≤ fieldCount (h .tree) = omega arith in
       refused-step k u h v (makeField d) 3 nobody (silenced (tree.makeField u d) (refuses u Full 0) (e ∙ ap (takeVacant u d) z))
-      (judge-of-field d (just x) (w .found) ∙ rw (hf, le-ltb (fieldCount (h .tree)) 8 l)))
+      (refusal-of-field d (just x) (w .found) ∙ rw (hf, le-ltb (fieldCount (h .tree)) 8 l)))
       (λ f z s.
       let l : fieldCount (h .tree) < 8 = omega arith in
       accepted-step k u h v (makeField d) (withFields u (claimed d (reclaimed (limitOf u) (u .slots) (u .fields)))) nobody
       (silenced (tree.makeField u d) (gives (withFields u (claimed d (reclaimed (limitOf u) (u .slots) (u .fields)))) 0) (e ∙ ap (takeVacant u d) z))
-      (judge-of-field d (just x) (w .found) ∙ rw (hf, lt-ltb (fieldCount (h .tree)) 8 l)) (field-inv d hd f q z))
+      (refusal-of-field d (just x) (w .found) ∙ rw (hf, lt-ltb (fieldCount (h .tree)) 8 l)) (field-inv d hd f q z))
 
   pub fields : (d : NodeId) → Kept k u h (makeField d)
   unfolding step tree.makeField
@@ -543,7 +543,7 @@ module _ (k : ℕ) (u : Ui) (h : History) (v : Inv k u h) where
       let e = on-live-is k u h v d 0 o in
       bool-cases (has h d)
       (λ b. on-a-node d b (find-known TextOf d (h .tree) (v .texts .texts) b) (fieldOf d (u .fields)) refl (e ∙ rw b))
-      (λ b. refused-step k u h v (makeField d) 2 nobody (silenced (onLive u d 0 o) (refuses u Missing 0) (e ∙ rw b)) (judge-of-field d nothing (find-nothing d (h .tree) b)))
+      (λ b. refused-step k u h v (makeField d) 2 nobody (silenced (onLive u d 0 o) (refuses u Missing 0) (e ∙ rw b)) (refusal-of-field d nothing (find-nothing d (h .tree) b)))
 
   -- ---- a pass
 
@@ -577,7 +577,7 @@ module _ (k : ℕ) (u : Ui) (h : History) (v : Inv k u h) where
       }
 
   pub passes : (w : Viewport) → Kept k u h (solve w)
-  unfolding step judge accept tree.solve
+  unfolding step refusalOf accept tree.solve
   passes w =
       let done : Outcome ℕ = gives (withPass u (passed (u .slots) (u .layout) w) w) 0 in
       let o : Outcome ℕ = pick (not (u .dirty) && sameView (u .«solved_for») w) (gives u 0) done in

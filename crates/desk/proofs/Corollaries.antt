@@ -35,9 +35,9 @@ use Rattle.tree.proofs.FieldLaws.{one-id-is-the-other, to-have-an-id-is-to-be-n
 use Rattle.tree.specs.Fields.{fieldOf}
 use Rattle.tree.proofs.Parts.{textIn}
 use Rattle.desk.specs.Events as desk
-use Rattle.desk.specs.History.{History, Call, has, unless, start, judge, judgeField, accept, note, grown, keepText, keyText, mapMaybe, refresh, hears, padded, ofText, ofNode, textSaid, caretSaid, metresSaid, rectSaid, fieldCount, rootId}
+use Rattle.desk.specs.History.{History, Call, has, unless, start, refusalOf, refusalOfField, accept, recorded, grown, keepText, keyText, mapMaybe, refresh, afterEvent, padded, ofText, ofNode, textSaid, caretSaid, metresSaid, rectSaid, fieldCount, rootId}
 use Rattle.desk.specs.History.Call.{insert, remove, setStyle, setStateTable, setPatchPool, makeField, solve, handle, nextOutput, fieldText, fieldCursor, metres, rect, live, firstChild, nextSibling, absorb}
-use Rattle.desk.specs.Demand3.{step, run, numbers, feed, given, Machines, follow, judged, Distinct}
+use Rattle.desk.specs.Demand3.{step, run, numbers, feed, given, Machines, follow, refusals, Distinct}
 use Rattle.desk.specs.Keys.{typedOn, textOfKeys, Log, logKey, logEvent, beginAt, logField, logged, logs, noKeys}
 use Rattle.desk.specs.declared.UiEvent.{UiEvent}
 use Rattle.desk.specs.declared.UiEvent.the-variants.{PointerMoved, PointerPressed, PointerReleased, TextEntered, Edit}
@@ -86,37 +86,37 @@ metres-not : (s : List ℕ) → metresOf s .number ≡ 1 → ⊥
 unfolding metresOf
 metres-not s = picked-not (eqb (length s) 0) _ _ (λ e. omega arith) (picked-not (choice.within 1 3 (front isDigit s)) _ _ (behind-not _ _) (λ e. omega arith))
 
-field-not : (h : History) (m : Maybe Info) → judgeField h m ≡ 1 → ⊥
+field-not : (h : History) (m : Maybe Info) → refusalOfField h m ≡ 1 → ⊥
 field-not h nothing = λ e. omega arith
 field-not h (just x) = unless-not (hasField x || ltb (fieldCount (h .tree)) 8) 4 0 (λ e. omega arith) (λ e. omega arith)
 
-judge-not : (h : History) (c : Call) → judge h c ≡ 1 → ⊥
-unfolding judge textSaid caretSaid metresSaid rectSaid
-judge-not h (insert d) = unless-not (has h d) 3 _ (λ e. omega arith) (unless-not (ltb (size (h .tree)) (h .limit)) 4 0 (λ e. omega arith) (λ e. omega arith))
-judge-not h (remove d) = unless-not (has h d) 3 _ (λ e. omega arith) (unless-not (not (sameId d rootId)) 5 0 (λ e. omega arith) (λ e. omega arith))
-judge-not h (setStyle d s) = unless-not (has h d) 3 0 (λ e. omega arith) (λ e. omega arith)
-judge-not h (setStateTable d table) = unless-not (has h d) 3 _ (λ e. omega arith) (unless-not (all (inPool (length (h .board .pool))) table) 6 0 (λ e. omega arith) (λ e. omega arith))
-judge-not h (setPatchPool patches count) = unless-not (not (ltb 64 count)) 7 0 (λ e. omega arith) (λ e. omega arith)
-judge-not h (makeField d) = field-not h (find d (h .tree))
-judge-not h (solve v) = λ e. omega arith
-judge-not h (handle e) = λ e. omega arith
-judge-not h nextOutput = λ e. omega arith
-judge-not h (fieldText d) = node-not _ _ (λ x. text-not _ _ (λ t e. omega arith) (x .text)) (find d (h .tree))
-judge-not h (fieldCursor d) = node-not _ _ (λ x. text-not _ _ (λ t e. omega arith) (x .text)) (find d (h .tree))
-judge-not h (metres d) = node-not _ _ (λ x. text-not _ _ (λ t. metres-not (bytesOf t)) (x .text)) (find d (h .tree))
-judge-not h (rect d) = node-not _ _ (λ x e. omega arith) (find d (h .tree))
-judge-not h (live d) = λ e. omega arith
-judge-not h (firstChild d) = λ e. omega arith
-judge-not h (nextSibling d) = unless-not (has h d) 3 0 (λ e. omega arith) (λ e. omega arith)
-judge-not h (absorb s) = λ e. omega arith
+refusal-is-not-1 : (h : History) (c : Call) → refusalOf h c ≡ 1 → ⊥
+unfolding refusalOf textSaid caretSaid metresSaid rectSaid
+refusal-is-not-1 h (insert d) = unless-not (has h d) 3 _ (λ e. omega arith) (unless-not (ltb (size (h .tree)) (h .limit)) 4 0 (λ e. omega arith) (λ e. omega arith))
+refusal-is-not-1 h (remove d) = unless-not (has h d) 3 _ (λ e. omega arith) (unless-not (not (sameId d rootId)) 5 0 (λ e. omega arith) (λ e. omega arith))
+refusal-is-not-1 h (setStyle d s) = unless-not (has h d) 3 0 (λ e. omega arith) (λ e. omega arith)
+refusal-is-not-1 h (setStateTable d table) = unless-not (has h d) 3 _ (λ e. omega arith) (unless-not (all (inPool (length (h .board .pool))) table) 6 0 (λ e. omega arith) (λ e. omega arith))
+refusal-is-not-1 h (setPatchPool patches count) = unless-not (not (ltb 64 count)) 7 0 (λ e. omega arith) (λ e. omega arith)
+refusal-is-not-1 h (makeField d) = field-not h (find d (h .tree))
+refusal-is-not-1 h (solve v) = λ e. omega arith
+refusal-is-not-1 h (handle e) = λ e. omega arith
+refusal-is-not-1 h nextOutput = λ e. omega arith
+refusal-is-not-1 h (fieldText d) = node-not _ _ (λ x. text-not _ _ (λ t e. omega arith) (x .text)) (find d (h .tree))
+refusal-is-not-1 h (fieldCursor d) = node-not _ _ (λ x. text-not _ _ (λ t e. omega arith) (x .text)) (find d (h .tree))
+refusal-is-not-1 h (metres d) = node-not _ _ (λ x. text-not _ _ (λ t. metres-not (bytesOf t)) (x .text)) (find d (h .tree))
+refusal-is-not-1 h (rect d) = node-not _ _ (λ x e. omega arith) (find d (h .tree))
+refusal-is-not-1 h (live d) = λ e. omega arith
+refusal-is-not-1 h (firstChild d) = λ e. omega arith
+refusal-is-not-1 h (nextSibling d) = unless-not (has h d) 3 0 (λ e. omega arith) (λ e. omega arith)
+refusal-is-not-1 h (absorb s) = λ e. omega arith
 
-judged-not : (h : History) (cs : List Call) (fed : List NodeId) → NeverOne (judged h cs fed)
-judged-not h [] fed = tt
-judged-not h (c ∷ cs) [] = tt
-judged-not h (c ∷ cs) (d ∷ fed) = (judge-not h c, judged-not (note h c d) cs fed)
+refusals-are-not-1 : (h : History) (cs : List Call) (fed : List NodeId) → NeverOne (refusals h cs fed)
+refusals-are-not-1 h [] fed = tt
+refusals-are-not-1 h (c ∷ cs) [] = tt
+refusals-are-not-1 h (c ∷ cs) (d ∷ fed) = (refusal-is-not-1 h c, refusals-are-not-1 (recorded h c d) cs fed)
 
 pub number-1-never-comes : (limit : ℕ) → limit < 2 ^ 32 → (cs : List Call) → length cs < 2 ^ 63 → Machines cs → NeverOne (numbers (tree.newTree limit .next) cs)
-number-1-never-comes limit l cs n m = subst NeverOne (sym (demand-3 limit l cs n m .refused-alike)) (judged-not (start limit) cs (feed (tree.newTree limit .next) cs))
+number-1-never-comes limit l cs n m = subst NeverOne (sym (demand-3 limit l cs n m .refused-alike)) (refusals-are-not-1 (start limit) cs (feed (tree.newTree limit .next) cs))
 
 -- ---- keys
 
@@ -181,7 +181,7 @@ key-logged log (just m) key t a =
         let s : keyText key t₀ ≡ y = cc in
         sym s ∙ ap (keyText key) (p t₀ e) ∙ sym (typed-on-one-more (text [] []) (log (x .name)) key)
 
-event-logged : (h : History) (e : UiEvent) (log : Log) → AllF (ByKeys log) (h .tree) → AllF (ByKeys (logEvent (h .input .focus) e log)) (hears h e .tree)
+event-logged : (h : History) (e : UiEvent) (log : Log) → AllF (ByKeys log) (h .tree) → AllF (ByKeys (logEvent (h .input .focus) e log)) (afterEvent h e .tree)
 event-logged h (PointerMoved x y) log a = a
 event-logged h PointerPressed log a = a
 event-logged h PointerReleased log a = a
@@ -237,13 +237,13 @@ module _ (k : ℕ) (u : Ui) (h : History) (v : Inv k u h) (log : Log) (a : AllF 
 
 -- ---- a call and its keys
 
-judge-of-nothing : (h : History) (m : Maybe Info) → m ≡ nothing → judgeField h m ≡ 0 → ⊥
-judge-of-nothing h nothing e = λ q. omega arith
-judge-of-nothing h (just x) e = λ q. let z : _≡_ {A = ℕ} 0 1 = cc in omega arith
+refusal-of-no-node : (h : History) (m : Maybe Info) → m ≡ nothing → refusalOfField h m ≡ 0 → ⊥
+refusal-of-no-node h nothing e = λ q. omega arith
+refusal-of-no-node h (just x) e = λ q. let z : _≡_ {A = ℕ} 0 1 = cc in omega arith
 
 module _ (k : ℕ) (u : Ui) (h : History) (v : Inv k u h) (log : Log) (a : AllF (ByKeys log) (h .tree)) (new : NodeId) where
-  call-logged : (c : Call) → judge h c ≡ 0 → AllF (ByKeys (logged h c log)) (accept h c new .tree)
-  unfolding judge accept logged grown wears restyled bare
+  call-logged : (c : Call) → refusalOf h c ≡ 0 → AllF (ByKeys (logged h c log)) (accept h c new .tree)
+  unfolding refusalOf accept logged grown wears restyled bare
   call-logged (insert d) j =
       all-set-kids-of (ByKeys log) d _ (h .tree)
       (all-app (ByKeys log) (kidsOf d (h .tree)) _ (all-kids-of (ByKeys log) d (h .tree) a) ((λ t q. no-text nothing t refl q), tt, tt)) a
@@ -255,7 +255,7 @@ module _ (k : ℕ) (u : Ui) (h : History) (v : Inv k u h) (log : Log) (a : AllF 
   call-logged (makeField d) j =
       bool-cases (hasId d (h .tree))
       (λ b. made (find-known (Own k u h v log a d) d (h .tree) (all-both (λ i g x. (x .name < length (h .named)) × (getD (h .named) (x .name) nobody ≡ record { index = i; generation = g })) (λ i g x. x .text ≡ textIn (fieldOf (record { index = i; generation = g }) (u .fields))) (h .tree) (v .naming .own) (v .texts .texts)) b))
-      (λ b. absurd (judge-of-nothing h (find d (h .tree)) (find-nothing d (h .tree) b) j))
+      (λ b. absurd (refusal-of-no-node h (find d (h .tree)) (find-nothing d (h .tree) b) j))
     where
       made : Known (Own k u h v log a d) d (h .tree) → AllF (ByKeys (logField (find d (h .tree)) log)) (changeOf d (λ x. withField x (keepText (x .text))) (h .tree))
       made K = subst (λ (m : Maybe Info). AllF (ByKeys (logField m log)) (changeOf d (λ x. withField x (keepText (x .text))) (h .tree))) (sym (K .found)) (made-logged k u h v log a d (K .load) (K .found) (K .holds))
@@ -263,7 +263,7 @@ module _ (k : ℕ) (u : Ui) (h : History) (v : Inv k u h) (log : Log) (a : AllF 
       bool-cases (not (h .board .dirty) && sameView (h .board .viewport) w)
       (λ b. rw b a)
       (λ b. rw b (placing-keeps-what-boxes-leave-alone (ByKeys log) (λ i g x r q. q) (h .tree) (viewRect w ∷ []) a))
-  call-logged (handle e) j = refresh-logged (hears h e) (logEvent (h .input .focus) e log) (event-logged h e log a)
+  call-logged (handle e) j = refresh-logged (afterEvent h e) (logEvent (h .input .focus) e log) (event-logged h e log a)
   call-logged nextOutput j = a
   call-logged (fieldText d) j = a
   call-logged (fieldCursor d) j = a
@@ -274,9 +274,9 @@ module _ (k : ℕ) (u : Ui) (h : History) (v : Inv k u h) (log : Log) (a : AllF 
   call-logged (nextSibling d) j = a
   call-logged (absorb s) j = a
 
-  note-logged : (c : Call) → AllF (ByKeys (pick (same (judge h c) 0) (logged h c log) log)) (note h c new .tree)
-  unfolding note
-  note-logged c = eq-cases (judge h c) 0 (λ e s _. rw s (call-logged c e)) (λ e s _. rw s a)
+  recorded-logged : (c : Call) → AllF (ByKeys (pick (same (refusalOf h c) 0) (logged h c log) log)) (recorded h c new .tree)
+  unfolding recorded
+  recorded-logged c = eq-cases (refusalOf h c) 0 (λ e s _. rw s (call-logged c e)) (λ e s _. rw s a)
 
 runs-logged : (k : ℕ) (u : Ui) (h : History) (cs : List Call) → Inv k u h → k + length cs < 2 ^ 63 → Machines cs → (log : Log) → AllF (ByKeys log) (h .tree)
     → AllF (ByKeys (logs h cs (feed u cs) log)) (follow h cs (feed u cs) .tree)
@@ -284,8 +284,8 @@ runs-logged k u h [] v small m log a = a
 runs-logged k u h (c ∷ cs) v small m log a =
     let s = step u c in
     let q : Kept k u h c = every-call k u h v (omega arith) c (m .0) in
-    runs-logged (suc k) (s .next) (note h c (s .told)) cs (q .goes-on) (omega arith) (m .1)
-    (pick (same (judge h c) 0) (logged h c log) log) (note-logged k u h v log a (s .told) c)
+    runs-logged (suc k) (s .next) (recorded h c (s .told)) cs (q .goes-on) (omega arith) (m .1)
+    (pick (same (refusalOf h c) 0) (logged h c log) log) (recorded-logged k u h v log a (s .told) c)
 
 -- ---- what a field says
 

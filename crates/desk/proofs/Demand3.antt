@@ -17,9 +17,9 @@ use Rattle.tree.proofs.Starts.{start-root-generation}
 use Rattle.tree.proofs.StartParts.{start-has-links, start-has-names, start-has-dress, start-has-a-pool, start-has-texts, start-has-a-queue}
 use Rattle.tree.proofs.ReadParts.{live-answers-whether-a-node-has-it, children-by-the-links-are-the-nodes, field-text-answers-the-nodes-text, field-cursor-answers-the-nodes-caret, metres-of-the-field-are-the-nodes, rect-answers-the-nodes-box}
 use Rattle.desk.specs.Events as desk
-use Rattle.desk.specs.History.{History, Call, limitFrom, start, judge, accept, note, grown, refresh, hears, textSaid, caretSaid, metresSaid, rectSaid, rootId}
+use Rattle.desk.specs.History.{History, Call, limitFrom, start, refusalOf, accept, recorded, grown, refresh, afterEvent, textSaid, caretSaid, metresSaid, rectSaid, rootId}
 use Rattle.desk.specs.History.Call.{insert, remove, setStyle, setStateTable, setPatchPool, makeField, solve, handle, nextOutput, fieldText, fieldCursor, metres, rect, live, firstChild, nextSibling, absorb}
-use Rattle.desk.specs.Demand3.{step, run, numbers, feed, isInsert, given, Machines, follow, judged, Agree, Others, Distinct, Demand3}
+use Rattle.desk.specs.Demand3.{step, run, numbers, feed, isInsert, given, Machines, follow, refusals, Agree, Others, Distinct, Demand3}
 use Rattle.desk.specs.declared.UiEvent.{UiEvent}
 use Rattle.desk.specs.declared.UiEvent.the-variants.{PointerMoved, PointerPressed, PointerReleased, TextEntered, Edit}
 use Rattle.desk.proofs.Invariant.{Inv}
@@ -89,51 +89,51 @@ agrees k u h v =
 
 -- ---- the names that were made are the ids that were given
 
-heard-named : (h : History) (e : UiEvent) → hears h e .named ≡ h .named
-heard-named h (PointerMoved x y) = refl
-heard-named h PointerPressed = refl
-heard-named h PointerReleased = refl
-heard-named h (TextEntered ch) = refl
-heard-named h (Edit op) = refl
+event-keeps-names : (h : History) (e : UiEvent) → afterEvent h e .named ≡ h .named
+event-keeps-names h (PointerMoved x y) = refl
+event-keeps-names h PointerPressed = refl
+event-keeps-names h PointerReleased = refl
+event-keeps-names h (TextEntered ch) = refl
+event-keeps-names h (Edit op) = refl
 
-refreshed-named : (h : History) → refresh h .named ≡ h .named
+refresh-keeps-names : (h : History) → refresh h .named ≡ h .named
 unfolding refresh
-refreshed-named h = refl
+refresh-keeps-names h = refl
 
 -- the ids that a call adds
 abbrev added : Call → ℕ → NodeId → List NodeId
 added c n d = pick (isInsert c) (pick (same n 0) (d ∷ []) []) []
 
-accepted-named : (h : History) (c : Call) (d : NodeId) → accept h c d .named ≡ h .named ++ pick (isInsert c) (d ∷ []) []
+accepted-names : (h : History) (c : Call) (d : NodeId) → accept h c d .named ≡ h .named ++ pick (isInsert c) (d ∷ []) []
 unfolding accept grown
-accepted-named h (insert e) d = refl
-accepted-named h (remove e) d = sym (append-nil (h .named))
-accepted-named h (setStyle e s) d = sym (append-nil (h .named))
-accepted-named h (setStateTable e table) d = sym (append-nil (h .named))
-accepted-named h (setPatchPool patches count) d = sym (append-nil (h .named))
-accepted-named h (makeField e) d = sym (append-nil (h .named))
-accepted-named h (solve w) d =
+accepted-names h (insert e) d = refl
+accepted-names h (remove e) d = sym (append-nil (h .named))
+accepted-names h (setStyle e s) d = sym (append-nil (h .named))
+accepted-names h (setStateTable e table) d = sym (append-nil (h .named))
+accepted-names h (setPatchPool patches count) d = sym (append-nil (h .named))
+accepted-names h (makeField e) d = sym (append-nil (h .named))
+accepted-names h (solve w) d =
     bool-cases (not (h .board .dirty) && sameView (h .board .viewport) w) (λ b. rw b (sym (append-nil (h .named)))) (λ b. rw b (sym (append-nil (h .named))))
-accepted-named h (handle e) d = refreshed-named (hears h e) ∙ heard-named h e ∙ sym (append-nil (h .named))
-accepted-named h nextOutput d = sym (append-nil (h .named))
-accepted-named h (fieldText e) d = sym (append-nil (h .named))
-accepted-named h (fieldCursor e) d = sym (append-nil (h .named))
-accepted-named h (metres e) d = sym (append-nil (h .named))
-accepted-named h (rect e) d = sym (append-nil (h .named))
-accepted-named h (live e) d = sym (append-nil (h .named))
-accepted-named h (firstChild e) d = sym (append-nil (h .named))
-accepted-named h (nextSibling e) d = sym (append-nil (h .named))
-accepted-named h (absorb s) d = sym (append-nil (h .named))
+accepted-names h (handle e) d = refresh-keeps-names (afterEvent h e) ∙ event-keeps-names h e ∙ sym (append-nil (h .named))
+accepted-names h nextOutput d = sym (append-nil (h .named))
+accepted-names h (fieldText e) d = sym (append-nil (h .named))
+accepted-names h (fieldCursor e) d = sym (append-nil (h .named))
+accepted-names h (metres e) d = sym (append-nil (h .named))
+accepted-names h (rect e) d = sym (append-nil (h .named))
+accepted-names h (live e) d = sym (append-nil (h .named))
+accepted-names h (firstChild e) d = sym (append-nil (h .named))
+accepted-names h (nextSibling e) d = sym (append-nil (h .named))
+accepted-names h (absorb s) d = sym (append-nil (h .named))
 
 pick-none : (b : Bool) → pick {A = List NodeId} b [] [] ≡ []
 pick-none true = refl
 pick-none false = refl
 
-noted-named : (h : History) (c : Call) (d : NodeId) → note h c d .named ≡ h .named ++ added c (judge h c) d
-unfolding note
-noted-named h c d =
-    bool-cases (same (judge h c) 0)
-    (λ b. rw b (accepted-named h c d))
+recorded-names : (h : History) (c : Call) (d : NodeId) → recorded h c d .named ≡ h .named ++ added c (refusalOf h c) d
+unfolding recorded
+recorded-names h c d =
+    bool-cases (same (refusalOf h c) 0)
+    (λ b. rw b (accepted-names h c d))
     (λ b. rw (b, pick-none (isInsert c)) (sym (append-nil (h .named))))
 
 given-by : (u : Ui) (c : Call) (cs : List Call) → given u (c ∷ cs) ≡ added c (step u c .number) (step u c .told) ++ given (step u c .next) cs
@@ -150,7 +150,7 @@ given-by u c cs = go (isInsert c) (same (step u c .number) 0)
 -- ---- the list
 
 pub record Runs (k : ℕ) (u : Ui) (h : History) (cs : List Call) : Type 0 where
-  pub alike : numbers u cs ≡ judged h cs (feed u cs)
+  pub alike : numbers u cs ≡ refusals h cs (feed u cs)
   pub ends : Inv (k + length cs) (run u cs) (follow h cs (feed u cs))
   pub names : follow h cs (feed u cs) .named ≡ h .named ++ given u cs
 
@@ -163,13 +163,13 @@ runs k u h [] v small m = record {
 runs k u h (c ∷ cs) v small m =
     let s = step u c in
     let q : Kept k u h c = every-call k u h v (omega arith) c (m .0) in
-    let r : Runs (suc k) (s .next) (note h c (s .told)) cs = runs (suc k) (s .next) (note h c (s .told)) cs (q .goes-on) (omega arith) (m .1) in
+    let r : Runs (suc k) (s .next) (recorded h c (s .told)) cs = runs (suc k) (s .next) (recorded h c (s .told)) cs (q .goes-on) (omega arith) (m .1) in
     record {
-      alike = ap₂ (λ (n : ℕ) (ns : List ℕ). n ∷ ns) (q .judged-so) (r .alike);
+      alike = ap₂ (λ (n : ℕ) (ns : List ℕ). n ∷ ns) (q .refused-so) (r .alike);
       ends = let e : k + suc (length cs) ≡ suc k + length cs = omega arith in rw e (r .ends);
       names =
           r .names
-          ∙ ap (λ (l : List NodeId). l ++ given (s .next) cs) (noted-named h c (s .told) ∙ ap (λ (n : ℕ). h .named ++ added c n (s .told)) (sym (q .judged-so)))
+          ∙ ap (λ (l : List NodeId). l ++ given (s .next) cs) (recorded-names h c (s .told) ∙ ap (λ (n : ℕ). h .named ++ added c n (s .told)) (sym (q .refused-so)))
           ∙ append-assoc (h .named) (added c (s .number) (s .told)) (given (s .next) cs)
           ∙ ap (λ (l : List NodeId). h .named ++ l) (sym (given-by u c cs));
     }

@@ -132,6 +132,6 @@ module _ (k : ℕ) (u : Ui) (h : History) (v : Inv k u h) (key : Key) where
       (sym (unchanged-at-each-node (λ i g x. pick (isNamed nothing x) (withField x (mapMaybe (keyText key) (x .text))) x) (h .tree) (of-all-nodes _ (λ i g x. refl) (h .tree)))) v
   key-into (just m) e n = into-the-node k u h v key (just m) m n refl
 
-  pub key-is-heard : Inv k (editFocused u key (u .interaction .focus)) (typedInto h key)
-  key-is-heard =
+  pub key-agrees : Inv k (editFocused u key (u .interaction .focus)) (typedInto h key)
+  key-agrees =
       subst (λ (o : MaybeId). Inv k (editFocused u key o) (typedInto h key)) (sym (v .focus-is)) (key-into (h .input .focus) refl (v .focus-named))

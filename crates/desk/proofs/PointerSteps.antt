@@ -19,8 +19,8 @@ use Rattle.tree.specs.declared.Ui.{Ui}
 use Rattle.tree.specs.declared.Interaction.{Interaction}
 use Rattle.tree.proofs.TestLaws.{bool-cases, eq-cases}
 use Rattle.tree.proofs.Parts.{Queue}
-use Rattle.desk.specs.Events.{pointedAt, pressedOn, activated, activate, releasedOn, heard, hitOf}
-use Rattle.desk.specs.History.{History, Input, withInput, idNamed, hovered, sameName, hears}
+use Rattle.desk.specs.Events.{pointedAt, pressedOn, activated, activate, releasedOn, appliedEvent, hitOf}
+use Rattle.desk.specs.History.{History, Input, withInput, idNamed, hitName, sameName, afterEvent}
 use Rattle.desk.specs.declared.UiEvent.the-variants.{PointerMoved, PointerPressed, PointerReleased}
 use Rattle.desk.proofs.Invariant.{Inv, NameIn, links-of-interaction, dress-of-interaction, pool-of-interaction, queue-of-interaction, links-of-waiting, dress-of-waiting, pool-of-waiting}
 use Rattle.desk.proofs.NameLaws.{equal-ids-are-the-same, id-cases}
@@ -83,15 +83,15 @@ pub waiting-length : (u : Ui) → limitOf u ≤ 128 → Queue u → length (wait
 waiting-length u m q = length-take-le (u .«output_count») (u .outputs) (let a = q .few in let b = q .long in omega arith)
 
 module _ (k : ℕ) (u : Ui) (h : History) (v : Inv k u h) where
-  pub move-is-heard : (x′ y′ : ℤ) → Inv k (heard u (hitOf u) (PointerMoved x′ y′)) (hears h (PointerMoved x′ y′))
-  move-is-heard x′ y′ =
+  pub move-agrees : (x′ y′ : ℤ) → Inv k (appliedEvent u (hitOf u) (PointerMoved x′ y′)) (afterEvent h (PointerMoved x′ y′))
+  move-agrees x′ y′ =
       interaction-by k u h (pointedAt (u .interaction) (record { x = x′; y = y′ })) (record { pointer = record { x = x′; y = y′ }; pressed = h .input .pressed; focus = h .input .focus }) v
       refl (v .pressed-is) (v .focus-is) (v .pressed-named) (v .focus-named)
 
-  pub press-is-heard : Inv k (heard u (hitOf u) PointerPressed) (hears h PointerPressed)
-  press-is-heard =
+  pub press-agrees : Inv k (appliedEvent u (hitOf u) PointerPressed) (afterEvent h PointerPressed)
+  press-agrees =
       let g = hits-agree k u h v in
-      interaction-by k u h (pressedOn (u .interaction) (hitOf u)) (record { pointer = h .input .pointer; pressed = hovered h; focus = h .input .focus }) v
+      interaction-by k u h (pressedOn (u .interaction) (hitOf u)) (record { pointer = h .input .pointer; pressed = hitName h; focus = h .input .focus }) v
       (v .pointer-is) (g .is-id) (v .focus-is) (g .is-in) (v .focus-named)
 
   -- the press ends
@@ -127,18 +127,18 @@ module _ (k : ℕ) (u : Ui) (h : History) (v : Inv k u h) where
       (λ _ q. q ∙ sym s))
 
   abbrev released : Maybe ℕ → History
-  released pr = withInput h (record { pointer = h .input .pointer; pressed = nothing; focus = pick (sameName pr (hovered h)) pr (h .input .focus) })
+  released pr = withInput h (record { pointer = h .input .pointer; pressed = nothing; focus = pick (sameName pr (hitName h)) pr (h .input .focus) })
 
   release-of : (pr : Maybe ℕ) → NameIn (h .named) pr → Inv k (releasedOn u (hitOf u) (idNamed (h .named) pr)) (released pr)
   release-of nothing n = press-ends (h .input .focus) (v .focus-is) (v .focus-named)
   release-of (just m) n =
       let g = hits-agree k u h v in
       let d = getD (h .named) m nobody in
-      let e : isId (hitOf u) d ≡ sameName (just m) (hovered h) = ap (λ (o : MaybeId). isId o d) (g .is-id) ∙ same-hit m n (hovered h) (g .is-in) in
-      bool-cases (sameName (just m) (hovered h))
+      let e : isId (hitOf u) d ≡ sameName (just m) (hitName h) = ap (λ (o : MaybeId). isId o d) (g .is-id) ∙ same-hit m n (hitName h) (g .is-in) in
+      bool-cases (sameName (just m) (hitName h))
       (λ s. rw (e, s) (activates m n))
       (λ s. rw (e, s) (press-ends (h .input .focus) (v .focus-is) (v .focus-named)))
 
-  pub release-is-heard : Inv k (heard u (hitOf u) PointerReleased) (hears h PointerReleased)
-  release-is-heard =
+  pub release-agrees : Inv k (appliedEvent u (hitOf u) PointerReleased) (afterEvent h PointerReleased)
+  release-agrees =
       subst (λ (o : MaybeId). Inv k (releasedOn u (hitOf u) o) (released (h .input .pressed))) (sym (v .pressed-is)) (release-of (h .input .pressed) (v .pressed-named))

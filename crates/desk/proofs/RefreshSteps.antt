@@ -20,16 +20,16 @@ use Rattle.tree.proofs.Parts.{Links, Naming, Dress, Pool, Texts, Queue, textIn}
 use Rattle.tree.proofs.ShapeParts.{links-by-shape, naming-by-shape, texts-by-shape}
 use Rattle.tree.proofs.LookParts.{refresh-keeps-dress, refresh-dirties}
 use Rattle.desk.specs.Events.{hitOf}
-use Rattle.desk.specs.History.{History, idNamed, hovered, refresh}
+use Rattle.desk.specs.History.{History, idNamed, hitName, refresh}
 use Rattle.desk.proofs.Invariant.{Inv, NameIn}
 use Rattle.desk.proofs.NameLaws.{HitNamed, hit-is-named, bits-by-names, no-bits-of-dead-slots}
 
 -- the node under the pointer
-pub hits-agree : (k : ℕ) (u : Ui) (h : History) → (v : Inv k u h) → HitNamed (u .slots) (h .tree) (h .named) (v .naming) (hitOf u) (hovered h)
+pub hits-agree : (k : ℕ) (u : Ui) (h : History) → (v : Inv k u h) → HitNamed (u .slots) (h .tree) (h .named) (v .naming) (hitOf u) (hitName h)
 unfolding hitOf
 hits-agree k u h v =
     let n = the-hit-test-names-the-forests-node u (u .interaction .pointer) (v .links .rel) (v .dress .boxed) in
-    hit-is-named (u .slots) (h .tree) (h .named) (v .naming) (hitOf u) (hovered h)
+    hit-is-named (u .slots) (h .tree) (h .named) (v .naming) (hitOf u) (hitName h)
     (subst (λ (p : Pointer). Names (h .tree) (hitTest u (u .interaction .pointer)) (hitF p nothing (h .tree))) (v .pointer-is) n)
 
 module _ (u : Ui) (o : MaybeId) where
@@ -93,5 +93,5 @@ unfolding refresh
 refresh-keeps-all k u h v =
     let g = hits-agree k u h v in
     subst (λ (o : MaybeId). Inv (suc k) (refreshed u o) (refresh h)) (sym (g .is-id))
-    (refresh-by k u h (hovered h) v (g .is-in) (λ i q x. bitsFor (hovered h) (h .input .pressed) (h .input .focus) x) refl (refresh h) refl refl refl
+    (refresh-by k u h (hitName h) v (g .is-in) (λ i q x. bitsFor (hitName h) (h .input .pressed) (h .input .focus) x) refl (refresh h) refl refl refl
     (rw (v .pool-is)) refl refl (rw (v .pool-is, v .dirty-is)))

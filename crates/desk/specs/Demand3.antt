@@ -19,7 +19,7 @@ use Rattle.tree.specs.Calls as tree
 use Rattle.tree.specs.Calls.{Outcome, nobody}
 use Rattle.tree.specs.declared.Ui.{Ui}
 use Rattle.desk.specs.Events as desk
-use Rattle.desk.specs.History.{History, Call, start, judge, note, textSaid, caretSaid, metresSaid, rectSaid, idNamed, rootId}
+use Rattle.desk.specs.History.{History, Call, start, refusalOf, recorded, textSaid, caretSaid, metresSaid, rectSaid, idNamed, rootId}
 use Rattle.desk.specs.History.Call.{insert, remove, setStyle, setStateTable, setPatchPool, makeField, solve, handle, nextOutput, fieldText, fieldCursor, metres, rect, live, firstChild, nextSibling, absorb}
 
 -- ---- the calls, by the definitions that the contracts cite
@@ -120,12 +120,12 @@ Machines (c ∷ cs) = Machine c × Machines cs
 abbrev pub follow : History → List Call → List NodeId → History
 follow h [] fed = h
 follow h (c ∷ cs) [] = h
-follow h (c ∷ cs) (d ∷ fed) = follow (note h c d) cs fed
+follow h (c ∷ cs) (d ∷ fed) = follow (recorded h c d) cs fed
 
-abbrev pub judged : History → List Call → List NodeId → List ℕ
-judged h [] fed = []
-judged h (c ∷ cs) [] = []
-judged h (c ∷ cs) (d ∷ fed) = judge h c ∷ judged (note h c d) cs fed
+abbrev pub refusals : History → List Call → List NodeId → List ℕ
+refusals h [] fed = []
+refusals h (c ∷ cs) [] = []
+refusals h (c ∷ cs) (d ∷ fed) = refusalOf h c ∷ refusals (recorded h c d) cs fed
 
 -- ---- the claim
 
@@ -159,7 +159,7 @@ Distinct (d ∷ ds) = Others d ds × Distinct ds
 
 -- Of a limit and a list of calls: each call was refused just as the history says, no id was given twice, and then all is as the history says.
 pub record Holds (limit : ℕ) (cs : List Call) : Type 0 where
-  pub refused-alike : numbers (tree.newTree limit .next) cs ≡ judged (start limit) cs (feed (tree.newTree limit .next) cs)
+  pub refused-alike : numbers (tree.newTree limit .next) cs ≡ refusals (start limit) cs (feed (tree.newTree limit .next) cs)
   pub ids-differ : Distinct (rootId ∷ given (tree.newTree limit .next) cs)
   pub agree : Agree (run (tree.newTree limit .next) cs) (follow (start limit) cs (feed (tree.newTree limit .next) cs))
 

@@ -106,18 +106,18 @@ editFocused u key Absent = u
 editFocused u key (Present d) = pick (isLive (limitOf u) (u .slots) d) (editField u d key (fieldOf d (u .fields))) u
 
 -- An event before the bits are refreshed, with `hit` the node under the pointer.
-abbrev pub heard : Ui → MaybeId → UiEvent → Ui
-heard u hit (PointerMoved x′ y′) = withInteraction u (pointedAt (u .interaction) (record { x = x′; y = y′ }))
-heard u hit PointerPressed = withInteraction u (pressedOn (u .interaction) hit)
-heard u hit PointerReleased = releasedOn u hit (u .interaction .pressed)
-heard u hit (TextEntered ch) = editFocused u (Char ch) (u .interaction .focus)
-heard u hit (Edit op) = editFocused u (Op op) (u .interaction .focus)
+abbrev pub appliedEvent : Ui → MaybeId → UiEvent → Ui
+appliedEvent u hit (PointerMoved x′ y′) = withInteraction u (pointedAt (u .interaction) (record { x = x′; y = y′ }))
+appliedEvent u hit PointerPressed = withInteraction u (pressedOn (u .interaction) hit)
+appliedEvent u hit PointerReleased = releasedOn u hit (u .interaction .pressed)
+appliedEvent u hit (TextEntered ch) = editFocused u (Char ch) (u .interaction .focus)
+appliedEvent u hit (Edit op) = editFocused u (Op op) (u .interaction .focus)
 
 unfoldable pub hitOf : Ui → MaybeId
 hitOf u = hitTest u (u .interaction .pointer)
 
 unfoldable pub handled : Ui → UiEvent → Ui
-handled u event = let v = heard u (hitOf u) event in refreshed v (hitOf v)
+handled u event = let v = appliedEvent u (hitOf u) event in refreshed v (hitOf v)
 
 unfoldable pub handle : Ui → UiEvent → Outcome ℕ
 handle u event = guarded u 0 (gives (handled u event) 0)

@@ -131,37 +131,37 @@ rectSaid h d = ofNode noRect (λ x. accepted (x .rect)) (find d (h .tree))
 abbrev pub unless : Bool → ℕ → ℕ → ℕ
 unless b n m = pick b m n
 
-abbrev pub judgeField : History → Maybe Info → ℕ
-judgeField h nothing = numberOf Missing
-judgeField h (just x) = unless (hasField x || ltb (fieldCount (h .tree)) 8) (numberOf Full) 0
+abbrev pub refusalOfField : History → Maybe Info → ℕ
+refusalOfField h nothing = numberOf Missing
+refusalOfField h (just x) = unless (hasField x || ltb (fieldCount (h .tree)) 8) (numberOf Full) 0
 
-unfoldable pub judge : History → Call → ℕ
-judge h (insert d) = unless (has h d) (numberOf Missing) (unless (ltb (size (h .tree)) (h .limit)) (numberOf Full) 0)
-judge h (remove d) = unless (has h d) (numberOf Missing) (unless (not (sameId d rootId)) (numberOf Root) 0)
-judge h (setStyle d s) = unless (has h d) (numberOf Missing) 0
-judge h (setStateTable d table) = unless (has h d) (numberOf Missing) (unless (all (inPool (length (h .board .pool))) table) (numberOf Foreign) 0)
-judge h (setPatchPool patches count) = unless (not (ltb 64 count)) (numberOf Long) 0
-judge h (makeField d) = judgeField h (find d (h .tree))
-judge h (solve v) = 0
-judge h (handle e) = 0
-judge h nextOutput = 0
-judge h (fieldText d) = textSaid h d .number
-judge h (fieldCursor d) = caretSaid h d .number
-judge h (metres d) = metresSaid h d .number
-judge h (rect d) = rectSaid h d .number
-judge h (live d) = 0
-judge h (firstChild d) = 0
-judge h (nextSibling d) = unless (has h d) (numberOf Missing) 0
-judge h (absorb s) = 0
+unfoldable pub refusalOf : History → Call → ℕ
+refusalOf h (insert d) = unless (has h d) (numberOf Missing) (unless (ltb (size (h .tree)) (h .limit)) (numberOf Full) 0)
+refusalOf h (remove d) = unless (has h d) (numberOf Missing) (unless (not (sameId d rootId)) (numberOf Root) 0)
+refusalOf h (setStyle d s) = unless (has h d) (numberOf Missing) 0
+refusalOf h (setStateTable d table) = unless (has h d) (numberOf Missing) (unless (all (inPool (length (h .board .pool))) table) (numberOf Foreign) 0)
+refusalOf h (setPatchPool patches count) = unless (not (ltb 64 count)) (numberOf Long) 0
+refusalOf h (makeField d) = refusalOfField h (find d (h .tree))
+refusalOf h (solve v) = 0
+refusalOf h (handle e) = 0
+refusalOf h nextOutput = 0
+refusalOf h (fieldText d) = textSaid h d .number
+refusalOf h (fieldCursor d) = caretSaid h d .number
+refusalOf h (metres d) = metresSaid h d .number
+refusalOf h (rect d) = rectSaid h d .number
+refusalOf h (live d) = 0
+refusalOf h (firstChild d) = 0
+refusalOf h (nextSibling d) = unless (has h d) (numberOf Missing) 0
+refusalOf h (absorb s) = 0
 
 -- The node under the pointer, by this tree and these boxes.
-abbrev pub hovered : History → Maybe ℕ
-hovered h = hitF (h .input .pointer) nothing (h .tree)
+abbrev pub hitName : History → Maybe ℕ
+hitName h = hitF (h .input .pointer) nothing (h .tree)
 
 -- Every live node wears the bits that follow from the hit, the press and the focus.
 unfoldable pub refresh : History → History
 refresh h =
-    let bits : Info → ℕ = bitsFor (hovered h) (h .input .pressed) (h .input .focus) in
+    let bits : Info → ℕ = bitsFor (hitName h) (h .input .pressed) (h .input .focus) in
     let pool = h .board .pool in
     withTree h (mapF (λ i g x. wears pool (bits x) x) (h .tree)) (h .board .dirty || anyF (λ i g x. swaps pool (bits x) x) (h .tree))
 
@@ -184,13 +184,13 @@ abbrev pub typedInto : History → Key → History
 typedInto h key = withTree h (changeNamed (h .input .focus) (λ x. withField x (mapMaybe (keyText key) (x .text))) (h .tree)) (h .board .dirty)
 
 -- An event before the bits are refreshed.
-abbrev pub hears : History → UiEvent → History
-hears h (PointerMoved x′ y′) = withInput h (record { pointer = record { x = x′; y = y′ }; pressed = h .input .pressed; focus = h .input .focus })
-hears h PointerPressed = withInput h (record { pointer = h .input .pointer; pressed = hovered h; focus = h .input .focus })
-hears h PointerReleased =
-    withInput h (record { pointer = h .input .pointer; pressed = nothing; focus = pick (sameName (h .input .pressed) (hovered h)) (h .input .pressed) (h .input .focus) })
-hears h (TextEntered ch) = typedInto h (Char ch)
-hears h (Edit op) = typedInto h (Op op)
+abbrev pub afterEvent : History → UiEvent → History
+afterEvent h (PointerMoved x′ y′) = withInput h (record { pointer = record { x = x′; y = y′ }; pressed = h .input .pressed; focus = h .input .focus })
+afterEvent h PointerPressed = withInput h (record { pointer = h .input .pointer; pressed = hitName h; focus = h .input .focus })
+afterEvent h PointerReleased =
+    withInput h (record { pointer = h .input .pointer; pressed = nothing; focus = pick (sameName (h .input .pressed) (hitName h)) (h .input .pressed) (h .input .focus) })
+afterEvent h (TextEntered ch) = typedInto h (Char ch)
+afterEvent h (Edit op) = typedInto h (Op op)
 
 -- A new last child of a node, with a name never used.
 unfoldable pub grown : History → NodeId → NodeId → History
@@ -224,7 +224,7 @@ accept h (makeField d) new = withTree h (changeOf d (λ x. withField x (keepText
 accept h (solve v) new =
     pick (not (h .board .dirty) && sameView (h .board .viewport) v) h
     (record { limit = h .limit; tree = placeF (h .tree) (viewRect v ∷ []); named = h .named; board = record { pool = h .board .pool; viewport = v; dirty = false }; input = h .input })
-accept h (handle e) new = refresh (hears h e)
+accept h (handle e) new = refresh (afterEvent h e)
 accept h nextOutput new = h
 accept h (fieldText d) new = h
 accept h (fieldCursor d) new = h
@@ -236,8 +236,8 @@ accept h (nextSibling d) new = h
 accept h (absorb s) new = h
 
 -- A refused call changes nothing.
-unfoldable pub note : History → Call → NodeId → History
-note h c new = pick (same (judge h c) 0) (accept h c new) h
+unfoldable pub recorded : History → Call → NodeId → History
+recorded h c new = pick (same (refusalOf h c) 0) (accept h c new) h
 
 -- The stored focus: the id of the node that has the name, dead or not.
 abbrev pub idNamed : List NodeId → Maybe ℕ → MaybeId

@@ -6,7 +6,7 @@ use Rattle.field.specs.declared.NodeId.{NodeId}
 use Rattle.tree.specs.Tests.{pick, same, Maybe, nothing, just}
 use Rattle.tree.specs.Forest.{find}
 use Rattle.tree.specs.Nodes.{Info}
-use Rattle.desk.specs.History.{History, Call, judge, note, sameName, keyText}
+use Rattle.desk.specs.History.{History, Call, refusalOf, recorded, sameName, keyText}
 use Rattle.desk.specs.History.Call.{insert, remove, setStyle, setStateTable, setPatchPool, makeField, solve, handle, nextOutput, fieldText, fieldCursor, metres, rect, live, firstChild, nextSibling, absorb}
 use Rattle.desk.specs.declared.UiEvent.{UiEvent}
 use Rattle.desk.specs.declared.UiEvent.the-variants.{PointerMoved, PointerPressed, PointerReleased, TextEntered, Edit}
@@ -68,7 +68,7 @@ logged h (absorb s) log = log
 abbrev pub logs : History → List Call → List NodeId → Log → Log
 logs h [] fed log = log
 logs h (c ∷ cs) [] log = log
-logs h (c ∷ cs) (d ∷ fed) log = logs (note h c d) cs fed (pick (same (judge h c) 0) (logged h c log) log)
+logs h (c ∷ cs) (d ∷ fed) log = logs (recorded h c d) cs fed (pick (same (refusalOf h c) 0) (logged h c log) log)
 
 -- No key yet.
 abbrev pub noKeys : Log

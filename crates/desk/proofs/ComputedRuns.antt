@@ -27,9 +27,14 @@ use Rattle.desk.specs.Events as desk-Events
 use Rattle.desk.specs.Events.{activated, activate, editFold, hitOf, handled}
 use Rattle.desk.specs.Demand3.{step, run, follow}
 use Rattle.tree.specs.Nodes.{wears, swaps, bitsFor, restyled, bare}
-use Rattle.desk.specs.History.{Call, History, limitFrom, start, textSaid, caretSaid, metresSaid, rectSaid, judge, refresh, grown, accept, note}
+use Rattle.desk.specs.History.{Call, History, limitFrom, start, textSaid, caretSaid, metresSaid, rectSaid, refusalOf, refresh, grown, accept, recorded}
 use Rattle.desk.specs.History.Call.{insert, makeField, solve, handle}
 use Rattle.desk.specs.declared.UiEvent.the-variants.{PointerMoved, PointerPressed, PointerReleased}
+
+-- The definitions that a run computes with: to unfold this one is to unfold them all.
+computing : Unit {0}
+unfolding stop addSat subSat gapTimes maxOf unsignedOf sumTo comesBefore rank growSum planGrowth fnvByte foldBytes lowBytes absorbed within isScalar allScalars encoded encodedAll encodedAs leadOf stepOf runFrom isUtf8 scalarsFrom scalars backOf front stepBack stepForward emptyField inRange fieldOk moved cutOut putIn stepBackOf stepForwardOf editedIn edited inserted editAnswer insertAnswer shownOf textOf withText same δ withNodes withLooks withPool withStated withFields withPass withInteraction withWaiting at put change isLive chain chainBack kidsAt order linkAfter linkLast unlinkFrom unlink freeOrder freeing aged freed layoutAt stateAt entryOf patchStyle touches inPool wear bitsOf bitsAt wearAll slotIn bearing refreshed styledAt tabledAt bared bareAll outer summed content want offset total boxes place measureAt measureAll setRects arrangeAt arrangeAll passed holds lastOf descend holdsAt hitTest fieldOf reclaimed claimed kidsWell nodeWell freeWell eachOnce linksWell linked stateWell distinct ownersWell broken guarded onLive newSlot newSlots fresh newTree insertAt tree-Calls.insert resetStates removeAt tree-Calls.remove tree-Calls.setStyle tree-Calls.setStateTable pooled tree-Calls.setPatchPool tree-Calls.makeField onField tree-Calls.fieldText tree-Calls.fieldCursor tree-Calls.solve tree-Calls.rect tree-Calls.live tree-Calls.firstChild tree-Calls.nextSibling activated activate editFold hitOf handled desk-Events.handle desk-Events.nextOutput desk-Events.absorb desk-Events.metres step wears swaps bitsFor restyled bare limitFrom start textSaid caretSaid metresSaid rectSaid refusalOf refresh grown accept recorded
+computing = tt
 
 -- The root of a tree of one node is pressed and released, twice; or the pointer leaves it before the release.
 abbrev press : List Call
@@ -44,11 +49,11 @@ missed = press ++ handle (PointerMoved (pos 30) (pos 3)) ∷ handle PointerRelea
 
 -- The fingerprint after each.
 pub activations-are-counted-and-folded : desk-Events.absorb (run (newTree 1 .next) hit) emptyHash .answer .value ≡ 0x753ea3e4669d35a9
-unfolding stop addSat subSat gapTimes maxOf unsignedOf sumTo comesBefore rank growSum planGrowth fnvByte foldBytes lowBytes absorbed within isScalar allScalars encoded encodedAll encodedAs leadOf stepOf runFrom isUtf8 scalarsFrom scalars backOf front stepBack stepForward emptyField inRange fieldOk moved cutOut putIn stepBackOf stepForwardOf editedIn edited inserted editAnswer insertAnswer shownOf textOf withText same δ withNodes withLooks withPool withStated withFields withPass withInteraction withWaiting at put change isLive chain chainBack kidsAt order linkAfter linkLast unlinkFrom unlink freeOrder freeing aged freed layoutAt stateAt entryOf patchStyle touches inPool wear bitsOf bitsAt wearAll slotIn bearing refreshed styledAt tabledAt bared bareAll outer summed content want offset total boxes place measureAt measureAll setRects arrangeAt arrangeAll passed holds lastOf descend holdsAt hitTest fieldOf reclaimed claimed kidsWell nodeWell freeWell eachOnce linksWell linked stateWell distinct ownersWell broken guarded onLive newSlot newSlots fresh newTree insertAt tree-Calls.insert resetStates removeAt tree-Calls.remove tree-Calls.setStyle tree-Calls.setStateTable pooled tree-Calls.setPatchPool tree-Calls.makeField onField tree-Calls.fieldText tree-Calls.fieldCursor tree-Calls.solve tree-Calls.rect tree-Calls.live tree-Calls.firstChild tree-Calls.nextSibling activated activate editFold hitOf handled desk-Events.handle desk-Events.nextOutput desk-Events.absorb desk-Events.metres step
+unfolding computing
 activations-are-counted-and-folded = refl
 
 pub a-release-elsewhere-activates-nothing : desk-Events.absorb (run (newTree 1 .next) missed) emptyHash .answer .value ≡ 0x6f4748bc953e3ee0
-unfolding stop addSat subSat gapTimes maxOf unsignedOf sumTo comesBefore rank growSum planGrowth fnvByte foldBytes lowBytes absorbed within isScalar allScalars encoded encodedAll encodedAs leadOf stepOf runFrom isUtf8 scalarsFrom scalars backOf front stepBack stepForward emptyField inRange fieldOk moved cutOut putIn stepBackOf stepForwardOf editedIn edited inserted editAnswer insertAnswer shownOf textOf withText same δ withNodes withLooks withPool withStated withFields withPass withInteraction withWaiting at put change isLive chain chainBack kidsAt order linkAfter linkLast unlinkFrom unlink freeOrder freeing aged freed layoutAt stateAt entryOf patchStyle touches inPool wear bitsOf bitsAt wearAll slotIn bearing refreshed styledAt tabledAt bared bareAll outer summed content want offset total boxes place measureAt measureAll setRects arrangeAt arrangeAll passed holds lastOf descend holdsAt hitTest fieldOf reclaimed claimed kidsWell nodeWell freeWell eachOnce linksWell linked stateWell distinct ownersWell broken guarded onLive newSlot newSlots fresh newTree insertAt tree-Calls.insert resetStates removeAt tree-Calls.remove tree-Calls.setStyle tree-Calls.setStateTable pooled tree-Calls.setPatchPool tree-Calls.makeField onField tree-Calls.fieldText tree-Calls.fieldCursor tree-Calls.solve tree-Calls.rect tree-Calls.live tree-Calls.firstChild tree-Calls.nextSibling activated activate editFold hitOf handled desk-Events.handle desk-Events.nextOutput desk-Events.absorb desk-Events.metres step
+unfolding computing
 a-release-elsewhere-activates-nothing = refl
 
 -- Eight nodes below the root, of which seven get a field.
@@ -60,12 +65,12 @@ nodeOf i = record { index = i; generation = 1 }
 
 abbrev grow : History → List ℕ → History
 grow h [] = h
-grow h (i ∷ is) = grow (note h (insert (nodeOf 0)) (nodeOf i)) is
+grow h (i ∷ is) = grow (recorded h (insert (nodeOf 0)) (nodeOf i)) is
 
 abbrev fields : History → List ℕ → History
 fields h [] = h
-fields h (i ∷ is) = fields (note h (makeField (nodeOf i)) (nodeOf 0)) is
+fields h (i ∷ is) = fields (recorded h (makeField (nodeOf i)) (nodeOf 0)) is
 
-pub the-eighth-field-is-accepted : judge (fields (grow (start 9) eight) (1 ∷ 2 ∷ 3 ∷ 4 ∷ 5 ∷ 6 ∷ 7 ∷ [])) (makeField (nodeOf 8)) ≡ 0
-unfolding same δ entryOf patchStyle touches inPool wear bitsOf bitsAt wearAll slotIn bearing refreshed styledAt tabledAt bared bareAll wears swaps bitsFor restyled bare limitFrom start textSaid caretSaid metresSaid rectSaid judge refresh grown accept note
+pub the-eighth-field-is-accepted : refusalOf (fields (grow (start 9) eight) (1 ∷ 2 ∷ 3 ∷ 4 ∷ 5 ∷ 6 ∷ 7 ∷ [])) (makeField (nodeOf 8)) ≡ 0
+unfolding computing
 the-eighth-field-is-accepted = refl
