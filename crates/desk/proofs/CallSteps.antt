@@ -10,15 +10,14 @@ use lib.Dec.{ltb}
 use lib.ListN.{length, getD, length-append, List·getD-append}
 use lib.Seq.{length-take-le}
 use Rattle.text.specs.Refusal.{Answer}
-use Rattle.text.specs.declared.refusal.Refusal.the-variants.{Broken, Missing, Full, Root, Foreign, Long}
-use Rattle.arithmetic.specs.declared.fold.StateHash.{StateHash}
+use Rattle.text.specs.declared.refusal.Refusal.the-variants.{Missing, Full, Root, Foreign, Long}
 use Rattle.field.specs.Text.{Text, text}
 use Rattle.field.specs.declared.NodeId.{NodeId}
 use Rattle.field.specs.declared.MaybeId.{MaybeId}
 use Rattle.field.specs.declared.MaybeId.the-variants.{Absent, Present}
 use Rattle.field.specs.declared.Field.{Field}
 use Rattle.tree.specs.Tests.{pick, same, δ, all, Maybe, nothing, just}
-use Rattle.tree.specs.Slots.{NIL, isLive, idAt, at}
+use Rattle.tree.specs.Slots.{NIL, idAt, at}
 use Rattle.tree.specs.Styles.{noPatch}
 use Rattle.tree.specs.States.{inPool, sameId, styledAt, tabledAt}
 use Rattle.tree.specs.Layout.{passed, viewRect}
@@ -51,9 +50,11 @@ use Rattle.tree.proofs.FieldLaws.{a-field-is-vacant-or-every-field-is-a-live-no
 use Rattle.tree.proofs.FieldParts.{texts-keep-dress, texts-keep-links, texts-keep-naming, retexted, a-field-stays, a-field-is-made}
 use Rattle.desk.specs.Events as desk
 use Rattle.desk.specs.Events.{handled, hitOf, appliedEvent, takeOldest}
-use Rattle.desk.specs.History.{History, Call, has, refusalOf, refusalOfField, accept, recorded, withTree, grown, keepText, idNamed, fieldCount, rootId, afterEvent, textSaid, caretSaid, metresSaid, rectSaid}
-use Rattle.desk.specs.History.Call.{insert, remove, setStyle, setStateTable, setPatchPool, makeField, solve, handle, nextOutput, fieldText, fieldCursor, metres, rect, live, firstChild, nextSibling, absorb}
-use Rattle.desk.specs.Demand3.{Step, step, silent, telling, Machine}
+use Rattle.desk.specs.History.{History, Call, Change, Question, has, refusalOf, refusalOfField, refusalOfQuestion, accept, recorded, withTree, grown, keepText, idNamed, fieldCount, rootId, afterEvent, textSaid, caretSaid, metresSaid, rectSaid}
+use Rattle.desk.specs.History.Call.{insert, change, ask}
+use Rattle.desk.specs.History.Change.{remove, setStyle, setStateTable, setPatchPool, makeField, solve, handle, nextOutput}
+use Rattle.desk.specs.History.Question.{fieldText, fieldCursor, metres, rect, live, firstChild, nextSibling, absorb}
+use Rattle.desk.specs.Demand3.{Step, step, numberAsked, silent, telling, Machine, MachineChange}
 use Rattle.desk.specs.declared.UiEvent.{UiEvent}
 use Rattle.desk.specs.declared.UiEvent.the-variants.{PointerMoved, PointerPressed, PointerReleased, TextEntered, Edit}
 use Rattle.desk.specs.declared.Key.the-variants.{Char, Op}
@@ -117,78 +118,29 @@ module _ (k : ℕ) (u : Ui) (h : History) (v : Inv k u h) where
 
   -- ---- reads
 
-  picked-next : {A : Type 0} (b : Bool) (o q : Outcome A) → o .next ≡ u → q .next ≡ u → pick b o q .next ≡ u
-  picked-next true o q e f = e
-  picked-next false o q e f = f
-
-  next-of-guarded : {A : Type 0} (none : A) (o : Outcome A) → o .next ≡ u → guarded u none o .next ≡ u
-  unfolding guarded
-  next-of-guarded none o e = picked-next (broken u) (refuses u Broken none) o refl e
-
-  next-of-live : {A : Type 0} (d : NodeId) (none : A) (o : Outcome A) → o .next ≡ u → onLive u d none o .next ≡ u
-  unfolding onLive
-  next-of-live d none o e = next-of-guarded none _ (picked-next (isLive (limitOf u) (u .slots) d) o (refuses u Missing none) e refl)
-
-  next-of-field : {A : Type 0} (d : NodeId) (none : A) (read : Field → Outcome A) → ((f : Field) → read f .next ≡ u) → tree.onField u d none read .next ≡ u
-  unfolding tree.onField
-  next-of-field d none read e = next-of-live d none _ (go (fieldOf d (u .fields)))
-    where
-      go : (m : Maybe Field) → tree.ofField u none read m .next ≡ u
-      go nothing = refl
-      go (just f) = e f
-
-  read-step : {A : Type 0} (c : Call) (o : Outcome A) → step u c ≡ silent o → o .next ≡ u → o .answer .number ≡ refusalOf h c → accept h c nobody ≡ h → Kept k u h c
-  unfolding recorded
-  read-step c o e en ej ea = record {
-    refused-so = ap (λ (s : Step). s .number) e ∙ ej;
-    goes-on =
-        subst (λ (s : Step). Inv (suc k) (s .next) (pick (same (refusalOf h c) 0) (accept h c (s .told)) h)) (sym e)
-        (subst (λ (w : Ui). Inv (suc k) w (pick (same (refusalOf h c) 0) (accept h c nobody) h)) (sym en)
-        (bool-cases (same (refusalOf h c) 0) (λ b. rw (b, ea) (inv-after k u h v)) (λ b. rw b (inv-after k u h v))));
-  }
-
-  text-read : (d : NodeId) → Kept k u h (fieldText d)
-  unfolding step refusalOf accept textSaid tree.fieldText
-  text-read d = read-step (fieldText d) (tree.fieldText u d) refl (next-of-field d tree.noText _ (λ f. refl))
-      (ap (λ (a : Answer tree.Shown). a .number) (field-text-answers-the-nodes-text (v .links) sound (v .texts) d)) refl
-
-  caret-read : (d : NodeId) → Kept k u h (fieldCursor d)
-  unfolding step refusalOf accept caretSaid tree.fieldCursor
-  caret-read d = read-step (fieldCursor d) (tree.fieldCursor u d) refl (next-of-field d 0 _ (λ f. refl))
-      (ap (λ (a : Answer ℕ). a .number) (field-cursor-answers-the-nodes-caret (v .links) sound (v .texts) d)) refl
-
-  metres-read : (d : NodeId) → Kept k u h (metres d)
-  unfolding step refusalOf accept metresSaid desk.metres
-  metres-read d = read-step (metres d) (desk.metres u d) refl (next-of-field d 0 _ (λ f. refl))
-      (ap (λ (a : Answer ℕ). a .number) (metres-of-the-field-are-the-nodes (v .links) sound (v .texts) d)) refl
-
-  rect-read : (d : NodeId) → Kept k u h (rect d)
-  unfolding step refusalOf accept rectSaid tree.rect
-  rect-read d = read-step (rect d) (tree.rect u d) refl (next-of-live d _ _ refl)
-      (ap (λ (a : Answer Rect). a .number) (rect-answers-the-nodes-box (v .links) sound (v .dress .boxed) d)) refl
-
-  live-read : (d : NodeId) → Kept k u h (live d)
-  unfolding step refusalOf accept tree.live
-  live-read d = read-step (live d) (tree.live u d) refl (next-of-guarded _ _ refl) (ap (λ (o : Outcome Bool). o .answer .number) (guarded-is false _)) refl
-
-  first-read : (d : NodeId) → Kept k u h (firstChild d)
-  unfolding step refusalOf accept tree.firstChild
-  first-read d = read-step (firstChild d) (tree.firstChild u d) refl (next-of-guarded _ _ refl) (ap (λ (o : Outcome MaybeId). o .answer .number) (guarded-is Absent _)) refl
-
-  next-read : (d : NodeId) → Kept k u h (nextSibling d)
-  unfolding step refusalOf accept tree.nextSibling
-  next-read d =
+  number-asked : (q : Question) → numberAsked u q ≡ refusalOfQuestion h q
+  unfolding textSaid caretSaid metresSaid rectSaid desk.metres tree.live tree.firstChild tree.nextSibling desk.absorb
+  number-asked (fieldText d) = ap (λ (a : Answer tree.Shown). a .number) (field-text-answers-the-nodes-text (v .links) sound (v .texts) d)
+  number-asked (fieldCursor d) = ap (λ (a : Answer ℕ). a .number) (field-cursor-answers-the-nodes-caret (v .links) sound (v .texts) d)
+  number-asked (metres d) = ap (λ (a : Answer ℕ). a .number) (metres-of-the-field-are-the-nodes (v .links) sound (v .texts) d)
+  number-asked (rect d) = ap (λ (a : Answer Rect). a .number) (rect-answers-the-nodes-box (v .links) sound (v .dress .boxed) d)
+  number-asked (live d) = ap (λ (o : Outcome Bool). o .answer .number) (guarded-is false _)
+  number-asked (firstChild d) = ap (λ (o : Outcome MaybeId). o .answer .number) (guarded-is Absent _)
+  number-asked (nextSibling d) =
       let o = gives u (tree.linked u (at (u .slots) (d .index) .«next_sibling»)) in
-      read-step (nextSibling d) (tree.nextSibling u d) refl (next-of-live d _ _ refl)
-      (ap (λ (q : Outcome MaybeId). q .answer .number) (on-live-is d Absent o) ∙ bool-cases (has h d) (λ b. rw b) (λ b. rw b)) refl
+      ap (λ (q : Outcome MaybeId). q .answer .number) (on-live-is d Absent o) ∙ bool-cases (has h d) (λ b. rw b) (λ b. rw b)
+  number-asked (absorb s) = ap (λ (o : Outcome ℕ). o .answer .number) (guarded-is 0 _)
 
-  absorb-read : (s : StateHash) → Kept k u h (absorb s)
-  unfolding step refusalOf accept desk.absorb
-  absorb-read s = read-step (absorb s) (desk.absorb u s) refl (next-of-guarded _ _ refl) (ap (λ (o : Outcome ℕ). o .answer .number) (guarded-is 0 _)) refl
+  pub asks : (q : Question) → Kept k u h (ask q)
+  unfolding step refusalOf accept recorded
+  asks q = record {
+    refused-so = number-asked q;
+    goes-on = bool-cases (same (refusalOfQuestion h q) 0) (λ b. rw b (inv-after k u h v)) (λ b. rw b (inv-after k u h v));
+  }
 
   -- ---- the oldest output
 
-  output-taken : Kept k u h nextOutput
+  output-taken : Kept k u h (change nextOutput)
   unfolding step refusalOf accept desk.nextOutput recorded
   output-taken = record {
     refused-so = ap (λ (o : Outcome MaybeId). o .answer .number) (guarded-is Absent (takeOldest u (waitingOf u))) ∙ number-is (waitingOf u);
@@ -218,11 +170,11 @@ module _ (k : ℕ) (u : Ui) (h : History) (v : Inv k u h) where
   event-agrees (TextEntered ch) = key-agrees k u h v (Char ch)
   event-agrees (Edit op) = key-agrees k u h v (Op op)
 
-  event-handled : (e : UiEvent) → Kept k u h (handle e)
+  event-handled : (e : UiEvent) → Kept k u h (change (handle e))
   unfolding step refusalOf accept desk.handle handled
   event-handled e =
       let w = appliedEvent u (hitOf u) e in
-      accepted-step (handle e) (handled u e) nobody (ap silent (guarded-is 0 (gives (handled u e) 0))) refl (refresh-keeps-all k w (afterEvent h e) (event-agrees e))
+      accepted-step (change (handle e)) (handled u e) nobody (ap silent (guarded-is 0 (gives (handled u e) 0))) refl (refresh-keeps-all k w (afterEvent h e) (event-agrees e))
 
 -- what is said of equal outcomes
 silenced : (o q : Outcome ℕ) → o ≡ q → silent o ≡ silent q
@@ -324,7 +276,7 @@ module _ (k : ℕ) (u : Ui) (h : History) (v : Inv k u h) where
       rw (s, same-yes (d .generation) 1 g))
       (λ e s _. rw s)
 
-  pub removes : k < 2 ^ 63 → (d : NodeId) → Kept k u h (remove d)
+  pub removes : k < 2 ^ 63 → (d : NodeId) → Kept k u h (change (remove d))
   unfolding step refusalOf accept tree.remove
   removes small d =
       let o : Outcome ℕ = pick (same (d .index) 0) (refuses u Root 0) (gives (removeAt u (d .index)) 0) in
@@ -332,9 +284,9 @@ module _ (k : ℕ) (u : Ui) (h : History) (v : Inv k u h) where
       bool-cases (has h d)
       (λ b. let q = root-by-index d b in
       eq-cases (d .index) 0
-      (λ z s _. refused-step k u h v (remove d) 4 nobody (silenced (onLive u d 0 o) (refuses u Root 0) (e ∙ rw (b, s))) (rw (b, q, s)))
-      (λ z s _. accepted-step k u h v (remove d) (removeAt u (d .index)) nobody (silenced (onLive u d 0 o) (gives (removeAt u (d .index)) 0) (e ∙ rw (b, s))) (rw (b, q, s)) (remove-inv small d b z)))
-      (λ b. refused-step k u h v (remove d) 2 nobody (silenced (onLive u d 0 o) (refuses u Missing 0) (e ∙ rw b)) (rw b))
+      (λ z s _. refused-step k u h v (change (remove d)) 4 nobody (silenced (onLive u d 0 o) (refuses u Root 0) (e ∙ rw (b, s))) (rw (b, q, s)))
+      (λ z s _. accepted-step k u h v (change (remove d)) (removeAt u (d .index)) nobody (silenced (onLive u d 0 o) (gives (removeAt u (d .index)) 0) (e ∙ rw (b, s))) (rw (b, q, s)) (remove-inv small d b z)))
+      (λ b. refused-step k u h v (change (remove d)) 2 nobody (silenced (onLive u d 0 o) (refuses u Missing 0) (e ∙ rw b)) (rw b))
 
   -- ---- styles, tables, the pool
 
@@ -385,20 +337,20 @@ module _ (k : ℕ) (u : Ui) (h : History) (v : Inv k u h) where
         focus-named = v .focus-named;
       }
 
-  pub styles : (d : NodeId) (s : Style) → Kept k u h (setStyle d s)
+  pub styles : (d : NodeId) (s : Style) → Kept k u h (change (setStyle d s))
   unfolding step refusalOf accept tree.setStyle
   styles d s =
       let o : Outcome ℕ = gives (styledAt u (d .index) s) 0 in
       let e = on-live-is k u h v d 0 o in
       bool-cases (has h d)
-      (λ b. accepted-step k u h v (setStyle d s) (styledAt u (d .index) s) nobody (silenced (onLive u d 0 o) o (e ∙ rw b)) (rw b) (style-inv d b s))
-      (λ b. refused-step k u h v (setStyle d s) 2 nobody (silenced (onLive u d 0 o) (refuses u Missing 0) (e ∙ rw b)) (rw b))
+      (λ b. accepted-step k u h v (change (setStyle d s)) (styledAt u (d .index) s) nobody (silenced (onLive u d 0 o) o (e ∙ rw b)) (rw b) (style-inv d b s))
+      (λ b. refused-step k u h v (change (setStyle d s)) 2 nobody (silenced (onLive u d 0 o) (refuses u Missing 0) (e ∙ rw b)) (rw b))
 
   pool-length : length (h .board .pool) ≡ u .«patch_count»
   pool-length = ap length (sym (v .pool-is)) ∙ length-take-le (u .«patch_count») (u .patches) (let a = v .pool .few in let b = v .pool .long in omega arith)
 
   table-inv : (d : NodeId) (hd : has h d ≡ true) (table : List ℕ) → all (inPool (u .«patch_count»)) table ≡ true
-      → Inv (suc k) (tabledAt u (d .index) table) (accept h (setStateTable d table) nobody)
+      → Inv (suc k) (tabledAt u (d .index) table) (accept h (change (setStateTable d table)) nobody)
   unfolding tabledAt withLooks wears accept
   table-inv d hd table ok =
       let pool = h .board .pool in
@@ -428,7 +380,7 @@ module _ (k : ℕ) (u : Ui) (h : History) (v : Inv k u h) where
         focus-named = v .focus-named;
       }
 
-  pub tables : (d : NodeId) (table : List ℕ) → Kept k u h (setStateTable d table)
+  pub tables : (d : NodeId) (table : List ℕ) → Kept k u h (change (setStateTable d table))
   unfolding step refusalOf tree.setStateTable
   tables d table =
       let o : Outcome ℕ = pick (all (inPool (u .«patch_count»)) table) (gives (tabledAt u (d .index) table) 0) (refuses u Foreign 0) in
@@ -436,11 +388,11 @@ module _ (k : ℕ) (u : Ui) (h : History) (v : Inv k u h) where
       let n = pool-length in
       bool-cases (has h d)
       (λ b. bool-cases (all (inPool (u .«patch_count»)) table)
-      (λ c. accepted-step k u h v (setStateTable d table) (tabledAt u (d .index) table) nobody (silenced (onLive u d 0 o) (gives (tabledAt u (d .index) table) 0) (e ∙ rw (b, c))) (rw (b, n, c)) (table-inv d b table c))
-      (λ c. refused-step k u h v (setStateTable d table) 5 nobody (silenced (onLive u d 0 o) (refuses u Foreign 0) (e ∙ rw (b, c))) (rw (b, n, c))))
-      (λ b. refused-step k u h v (setStateTable d table) 2 nobody (silenced (onLive u d 0 o) (refuses u Missing 0) (e ∙ rw b)) (rw b))
+      (λ c. accepted-step k u h v (change (setStateTable d table)) (tabledAt u (d .index) table) nobody (silenced (onLive u d 0 o) (gives (tabledAt u (d .index) table) 0) (e ∙ rw (b, c))) (rw (b, n, c)) (table-inv d b table c))
+      (λ c. refused-step k u h v (change (setStateTable d table)) 5 nobody (silenced (onLive u d 0 o) (refuses u Foreign 0) (e ∙ rw (b, c))) (rw (b, n, c))))
+      (λ b. refused-step k u h v (change (setStateTable d table)) 2 nobody (silenced (onLive u d 0 o) (refuses u Missing 0) (e ∙ rw b)) (rw b))
 
-  pool-inv : (patches : List StatePatch) (count : ℕ) → length patches ≡ 64 → count ≤ 64 → Inv (suc k) (pooled u patches count) (accept h (setPatchPool patches count) nobody)
+  pool-inv : (patches : List StatePatch) (count : ℕ) → length patches ≡ 64 → count ≤ 64 → Inv (suc k) (pooled u patches count) (accept h (change (setPatchPool patches count)) nobody)
   unfolding pooled withPool withLooks bare accept
   pool-inv patches count long few =
       let w : ℕ → ℕ → Info → Info = λ i g x. bare x in
@@ -463,14 +415,14 @@ module _ (k : ℕ) (u : Ui) (h : History) (v : Inv k u h) where
         focus-named = v .focus-named;
       }
 
-  pub pools : (patches : List StatePatch) (count : ℕ) → length patches ≡ 64 → Kept k u h (setPatchPool patches count)
+  pub pools : (patches : List StatePatch) (count : ℕ) → length patches ≡ 64 → Kept k u h (change (setPatchPool patches count))
   unfolding step refusalOf tree.setPatchPool
   pools patches count long =
       let o : Outcome ℕ = pick (ltb 64 count) (refuses u Long 0) (gives (pooled u patches count) 0) in
       let e = guarded-is k u h v 0 o in
       bool-cases (ltb 64 count)
-      (λ b. refused-step k u h v (setPatchPool patches count) 6 nobody (silenced (guarded u 0 o) (refuses u Long 0) (e ∙ rw b)) (rw b))
-      (λ b. accepted-step k u h v (setPatchPool patches count) (pooled u patches count) nobody (silenced (guarded u 0 o) (gives (pooled u patches count) 0) (e ∙ rw b)) (rw b) (pool-inv patches count long (ltb-false 64 count b)))
+      (λ b. refused-step k u h v (change (setPatchPool patches count)) 6 nobody (silenced (guarded u 0 o) (refuses u Long 0) (e ∙ rw b)) (rw b))
+      (λ b. accepted-step k u h v (change (setPatchPool patches count)) (pooled u patches count) nobody (silenced (guarded u 0 o) (gives (pooled u patches count) 0) (e ∙ rw b)) (rw b) (pool-inv patches count long (ltb-false 64 count b)))
 
   -- ---- a field
 
@@ -479,7 +431,7 @@ module _ (k : ℕ) (u : Ui) (h : History) (v : Inv k u h) where
   count-is-a-sum (node i g x cs sib) = let a = count-is-a-sum cs in let b = count-is-a-sum sib in omega arith
 
   field-inv : (d : NodeId) (hd : has h d ≡ true) (f : Field) → fieldOf d (u .fields) ≡ nothing → firstField vacant (reclaimed (limitOf u) (u .slots) (u .fields)) ≡ just f
-      → Inv (suc k) (withFields u (claimed d (reclaimed (limitOf u) (u .slots) (u .fields)))) (accept h (makeField d) nobody)
+      → Inv (suc k) (withFields u (claimed d (reclaimed (limitOf u) (u .slots) (u .fields)))) (accept h (change (makeField d)) nobody)
   unfolding withFields accept
   field-inv d hd f none some =
       let fs = claimed d (reclaimed (limitOf u) (u .slots) (u .fields)) in
@@ -505,7 +457,7 @@ module _ (k : ℕ) (u : Ui) (h : History) (v : Inv k u h) where
         focus-named = v .focus-named;
       }
 
-  refusal-of-field : (d : NodeId) (m : Maybe Info) → find d (h .tree) ≡ m → refusalOf h (makeField d) ≡ refusalOfField h m
+  refusal-of-field : (d : NodeId) (m : Maybe Info) → find d (h .tree) ≡ m → refusalOf h (change (makeField d)) ≡ refusalOfField h m
   unfolding refusalOf
   refusal-of-field d m q = ap (refusalOfField h) q
 
@@ -513,12 +465,12 @@ module _ (k : ℕ) (u : Ui) (h : History) (v : Inv k u h) where
   TextOf i g x = x .text ≡ textIn (fieldOf (record { index = i; generation = g }) (u .fields))
 
   -- the node has a field, takes a vacant one, or there is none
-  on-a-node : (d : NodeId) (hd : has h d ≡ true) (w : Known TextOf d (h .tree)) (m : Maybe Field) → fieldOf d (u .fields) ≡ m → tree.makeField u d ≡ takeField u d m → Kept k u h (makeField d)
+  on-a-node : (d : NodeId) (hd : has h d ≡ true) (w : Known TextOf d (h .tree)) (m : Maybe Field) → fieldOf d (u .fields) ≡ m → tree.makeField u d ≡ takeField u d m → Kept k u h (change (makeField d))
   unfolding step accept
   on-a-node d hd w (just f) q e =
       let x = w .load in
       let hf : hasField x ≡ true = a-node-with-a-text-has-a-field x (just f) (w .holds ∙ ap textIn q) in
-      accepted-step k u h v (makeField d) u nobody (silenced (tree.makeField u d) (gives u 0) e) (refusal-of-field d (just x) (w .found) ∙ rw hf)
+      accepted-step k u h v (change (makeField d)) u nobody (silenced (tree.makeField u d) (gives u 0) e) (refusal-of-field d (just x) (w .found) ∙ rw hf)
       (subst (λ (t : Forest Info). Inv (suc k) u (withTree h t (h .board .dirty))) (sym (a-field-stays k u (h .tree) (v .links) (v .texts) d hd keepText refl (λ z. refl) f q)) (inv-after k u h v))
   on-a-node d hd w nothing q e =
       let x = w .load in
@@ -528,22 +480,22 @@ module _ (k : ℕ) (u : Ui) (h : History) (v : Inv k u h) where
       a-field-is-vacant-or-every-field-is-a-live-nodes (v .links .rel) (u .fields) (v .texts .owners) (v .texts .texts)
       (λ z s.
       let l : 8 ≤ fieldCount (h .tree) = omega arith in
-      refused-step k u h v (makeField d) 3 nobody (silenced (tree.makeField u d) (refuses u Full 0) (e ∙ ap (takeVacant u d) z))
+      refused-step k u h v (change (makeField d)) 3 nobody (silenced (tree.makeField u d) (refuses u Full 0) (e ∙ ap (takeVacant u d) z))
       (refusal-of-field d (just x) (w .found) ∙ rw (hf, le-ltb (fieldCount (h .tree)) 8 l)))
       (λ f z s.
       let l : fieldCount (h .tree) < 8 = omega arith in
-      accepted-step k u h v (makeField d) (withFields u (claimed d (reclaimed (limitOf u) (u .slots) (u .fields)))) nobody
+      accepted-step k u h v (change (makeField d)) (withFields u (claimed d (reclaimed (limitOf u) (u .slots) (u .fields)))) nobody
       (silenced (tree.makeField u d) (gives (withFields u (claimed d (reclaimed (limitOf u) (u .slots) (u .fields)))) 0) (e ∙ ap (takeVacant u d) z))
       (refusal-of-field d (just x) (w .found) ∙ rw (hf, lt-ltb (fieldCount (h .tree)) 8 l)) (field-inv d hd f q z))
 
-  pub fields : (d : NodeId) → Kept k u h (makeField d)
+  pub fields : (d : NodeId) → Kept k u h (change (makeField d))
   unfolding step tree.makeField
   fields d =
       let o : Outcome ℕ = takeField u d (fieldOf d (u .fields)) in
       let e = on-live-is k u h v d 0 o in
       bool-cases (has h d)
       (λ b. on-a-node d b (find-known TextOf d (h .tree) (v .texts .texts) b) (fieldOf d (u .fields)) refl (e ∙ rw b))
-      (λ b. refused-step k u h v (makeField d) 2 nobody (silenced (onLive u d 0 o) (refuses u Missing 0) (e ∙ rw b)) (refusal-of-field d nothing (find-nothing d (h .tree) b)))
+      (λ b. refused-step k u h v (change (makeField d)) 2 nobody (silenced (onLive u d 0 o) (refuses u Missing 0) (e ∙ rw b)) (refusal-of-field d nothing (find-nothing d (h .tree) b)))
 
   -- ---- a pass
 
@@ -576,7 +528,7 @@ module _ (k : ℕ) (u : Ui) (h : History) (v : Inv k u h) where
         focus-named = v .focus-named;
       }
 
-  pub passes : (w : Viewport) → Kept k u h (solve w)
+  pub passes : (w : Viewport) → Kept k u h (change (solve w))
   unfolding step refusalOf accept tree.solve
   passes w =
       let done : Outcome ℕ = gives (withPass u (passed (u .slots) (u .layout) w) w) 0 in
@@ -585,26 +537,22 @@ module _ (k : ℕ) (u : Ui) (h : History) (v : Inv k u h) where
       let q : (not (u .dirty) && sameView (u .«solved_for») w) ≡ (not (h .board .dirty) && sameView (h .board .viewport) w) =
       ap₂ (λ (b : Bool) (z : Viewport). not b && sameView z w) (v .dirty-is) (v .view-is) in
       bool-cases (not (h .board .dirty) && sameView (h .board .viewport) w)
-      (λ b. accepted-step k u h v (solve w) u nobody (silenced (guarded u 0 o) (gives u 0) (e ∙ rw (q ∙ b))) refl (rw b (inv-after k u h v)))
-      (λ b. accepted-step k u h v (solve w) (withPass u (passed (u .slots) (u .layout) w) w) nobody (silenced (guarded u 0 o) done (a-pass-that-is-due-is-made (v .links) (sound k u h v) w (q ∙ b))) refl (rw b (pass-inv w)))
+      (λ b. accepted-step k u h v (change (solve w)) u nobody (silenced (guarded u 0 o) (gives u 0) (e ∙ rw (q ∙ b))) refl (rw b (inv-after k u h v)))
+      (λ b. accepted-step k u h v (change (solve w)) (withPass u (passed (u .slots) (u .layout) w) w) nobody (silenced (guarded u 0 o) done (a-pass-that-is-due-is-made (v .links) (sound k u h v) w (q ∙ b))) refl (rw b (pass-inv w)))
 
   -- ---- every call
 
+  every-change : k < 2 ^ 63 → (c : Change) → MachineChange c → Kept k u h (change c)
+  every-change small (remove d) m = removes small d
+  every-change small (setStyle d s) m = styles d s
+  every-change small (setStateTable d table) m = tables d table
+  every-change small (setPatchPool patches count) m = pools patches count m
+  every-change small (makeField d) m = fields d
+  every-change small (solve w) m = passes w
+  every-change small (handle e) m = event-handled k u h v e
+  every-change small nextOutput m = output-taken k u h v
+
   pub every-call : k < 2 ^ 63 → (c : Call) → Machine c → Kept k u h c
   every-call small (insert d) m = inserts d
-  every-call small (remove d) m = removes small d
-  every-call small (setStyle d s) m = styles d s
-  every-call small (setStateTable d table) m = tables d table
-  every-call small (setPatchPool patches count) m = pools patches count m
-  every-call small (makeField d) m = fields d
-  every-call small (solve w) m = passes w
-  every-call small (handle e) m = event-handled k u h v e
-  every-call small nextOutput m = output-taken k u h v
-  every-call small (fieldText d) m = text-read k u h v d
-  every-call small (fieldCursor d) m = caret-read k u h v d
-  every-call small (metres d) m = metres-read k u h v d
-  every-call small (rect d) m = rect-read k u h v d
-  every-call small (live d) m = live-read k u h v d
-  every-call small (firstChild d) m = first-read k u h v d
-  every-call small (nextSibling d) m = next-read k u h v d
-  every-call small (absorb s) m = absorb-read k u h v s
+  every-call small (change c) m = every-change small c m
+  every-call small (ask q) m = asks k u h v q

@@ -14,7 +14,7 @@ use Rattle.text.specs.Steps.{backOf, front, stepBack, stepForward}
 use Rattle.field.specs.Fields.{emptyField, inRange, fieldOk, moved, cutOut, putIn, stepBackOf, stepForwardOf, editedIn, edited, inserted, editAnswer, insertAnswer, shownOf, textOf, withText}
 use Rattle.tree.specs.Tests.{same, δ}
 use Rattle.tree.specs.Trees.{withNodes, withLooks, withPool, withStated, withFields, withPass, withInteraction, withWaiting}
-use Rattle.tree.specs.Slots.{at, put, change, isLive, chain, chainBack, kidsAt, order, linkAfter, linkLast, unlinkFrom, unlink, freeOrder, freeing, aged, freed}
+use Rattle.tree.specs.Slots.{at, put, change as changeSlot, isLive, chain, chainBack, kidsAt, order, linkAfter, linkLast, unlinkFrom, unlink, freeOrder, freeing, aged, freed}
 use Rattle.tree.specs.Styles.{layoutAt, stateAt}
 use Rattle.tree.specs.States.{entryOf, patchStyle, touches, inPool, wear, bitsOf, bitsAt, wearAll, slotIn, bearing, refreshed, styledAt, tabledAt, bared, bareAll}
 use Rattle.tree.specs.Layout.{outer, summed, content, want, offset, total, boxes, place, measureAt, measureAll, setRects, arrangeAt, arrangeAll, passed, holds}
@@ -25,27 +25,28 @@ use Rattle.tree.specs.Calls as tree-Calls
 use Rattle.tree.specs.Calls.{guarded, onLive, newSlot, newSlots, fresh, newTree, insertAt, resetStates, removeAt, pooled, onField}
 use Rattle.desk.specs.Events as desk-Events
 use Rattle.desk.specs.Events.{activated, activate, editFold, hitOf, handled}
-use Rattle.desk.specs.Demand3.{step, run, follow}
+use Rattle.desk.specs.Demand3.{step, run}
 use Rattle.tree.specs.Nodes.{wears, swaps, bitsFor, restyled, bare}
 use Rattle.desk.specs.History.{Call, History, limitFrom, start, textSaid, caretSaid, metresSaid, rectSaid, refusalOf, refresh, grown, accept, recorded}
-use Rattle.desk.specs.History.Call.{insert, makeField, solve, handle}
+use Rattle.desk.specs.History.Call.{insert, change}
+use Rattle.desk.specs.History.Change.{makeField, solve, handle}
 use Rattle.desk.specs.declared.UiEvent.the-variants.{PointerMoved, PointerPressed, PointerReleased}
 
 -- The definitions that a run computes with: to unfold this one is to unfold them all.
 computing : Unit {0}
-unfolding stop addSat subSat gapTimes maxOf unsignedOf sumTo comesBefore rank growSum planGrowth fnvByte foldBytes lowBytes absorbed within isScalar allScalars encoded encodedAll encodedAs leadOf stepOf runFrom isUtf8 scalarsFrom scalars backOf front stepBack stepForward emptyField inRange fieldOk moved cutOut putIn stepBackOf stepForwardOf editedIn edited inserted editAnswer insertAnswer shownOf textOf withText same δ withNodes withLooks withPool withStated withFields withPass withInteraction withWaiting at put change isLive chain chainBack kidsAt order linkAfter linkLast unlinkFrom unlink freeOrder freeing aged freed layoutAt stateAt entryOf patchStyle touches inPool wear bitsOf bitsAt wearAll slotIn bearing refreshed styledAt tabledAt bared bareAll outer summed content want offset total boxes place measureAt measureAll setRects arrangeAt arrangeAll passed holds lastOf descend holdsAt hitTest fieldOf reclaimed claimed kidsWell nodeWell freeWell eachOnce linksWell linked stateWell distinct ownersWell broken guarded onLive newSlot newSlots fresh newTree insertAt tree-Calls.insert resetStates removeAt tree-Calls.remove tree-Calls.setStyle tree-Calls.setStateTable pooled tree-Calls.setPatchPool tree-Calls.makeField onField tree-Calls.fieldText tree-Calls.fieldCursor tree-Calls.solve tree-Calls.rect tree-Calls.live tree-Calls.firstChild tree-Calls.nextSibling activated activate editFold hitOf handled desk-Events.handle desk-Events.nextOutput desk-Events.absorb desk-Events.metres step wears swaps bitsFor restyled bare limitFrom start textSaid caretSaid metresSaid rectSaid refusalOf refresh grown accept recorded
+unfolding stop addSat subSat gapTimes maxOf unsignedOf sumTo comesBefore rank growSum planGrowth fnvByte foldBytes lowBytes absorbed within isScalar allScalars encoded encodedAll encodedAs leadOf stepOf runFrom isUtf8 scalarsFrom scalars backOf front stepBack stepForward emptyField inRange fieldOk moved cutOut putIn stepBackOf stepForwardOf editedIn edited inserted editAnswer insertAnswer shownOf textOf withText same δ withNodes withLooks withPool withStated withFields withPass withInteraction withWaiting at put changeSlot isLive chain chainBack kidsAt order linkAfter linkLast unlinkFrom unlink freeOrder freeing aged freed layoutAt stateAt entryOf patchStyle touches inPool wear bitsOf bitsAt wearAll slotIn bearing refreshed styledAt tabledAt bared bareAll outer summed content want offset total boxes place measureAt measureAll setRects arrangeAt arrangeAll passed holds lastOf descend holdsAt hitTest fieldOf reclaimed claimed kidsWell nodeWell freeWell eachOnce linksWell linked stateWell distinct ownersWell broken guarded onLive newSlot newSlots fresh newTree insertAt tree-Calls.insert resetStates removeAt tree-Calls.remove tree-Calls.setStyle tree-Calls.setStateTable pooled tree-Calls.setPatchPool tree-Calls.makeField onField tree-Calls.fieldText tree-Calls.fieldCursor tree-Calls.solve tree-Calls.rect tree-Calls.live tree-Calls.firstChild tree-Calls.nextSibling activated activate editFold hitOf handled desk-Events.handle desk-Events.nextOutput desk-Events.absorb desk-Events.metres step wears swaps bitsFor restyled bare limitFrom start textSaid caretSaid metresSaid rectSaid refusalOf refresh grown accept recorded
 computing = tt
 
 -- The root of a tree of one node is pressed and released, twice; or the pointer leaves it before the release.
 abbrev press : List Call
 press =
-    solve (record { width = pos 655360; height = pos 655360 }) ∷ handle (PointerMoved (pos 3) (pos 3)) ∷ handle PointerPressed ∷ []
+    change (solve (record { width = pos 655360; height = pos 655360 })) ∷ change (handle (PointerMoved (pos 3) (pos 3))) ∷ change (handle PointerPressed) ∷ []
 
 abbrev hit : List Call
-hit = press ++ handle PointerReleased ∷ handle PointerPressed ∷ handle PointerReleased ∷ []
+hit = press ++ change (handle PointerReleased) ∷ change (handle PointerPressed) ∷ change (handle PointerReleased) ∷ []
 
 abbrev missed : List Call
-missed = press ++ handle (PointerMoved (pos 30) (pos 3)) ∷ handle PointerReleased ∷ []
+missed = press ++ change (handle (PointerMoved (pos 30) (pos 3))) ∷ change (handle PointerReleased) ∷ []
 
 -- The fingerprint after each.
 pub activations-are-counted-and-folded : desk-Events.absorb (run (newTree 1 .next) hit) emptyHash .answer .value ≡ 0x753ea3e4669d35a9
@@ -69,8 +70,8 @@ grow h (i ∷ is) = grow (recorded h (insert (nodeOf 0)) (nodeOf i)) is
 
 abbrev fields : History → List ℕ → History
 fields h [] = h
-fields h (i ∷ is) = fields (recorded h (makeField (nodeOf i)) (nodeOf 0)) is
+fields h (i ∷ is) = fields (recorded h (change (makeField (nodeOf i))) (nodeOf 0)) is
 
-pub the-eighth-field-is-accepted : refusalOf (fields (grow (start 9) eight) (1 ∷ 2 ∷ 3 ∷ 4 ∷ 5 ∷ 6 ∷ 7 ∷ [])) (makeField (nodeOf 8)) ≡ 0
+pub the-eighth-field-is-accepted : refusalOf (fields (grow (start 9) eight) (1 ∷ 2 ∷ 3 ∷ 4 ∷ 5 ∷ 6 ∷ 7 ∷ [])) (change (makeField (nodeOf 8))) ≡ 0
 unfolding computing
 the-eighth-field-is-accepted = refl

@@ -35,10 +35,12 @@ use Rattle.tree.proofs.FieldLaws.{one-id-is-the-other, to-have-an-id-is-to-be-n
 use Rattle.tree.specs.Fields.{fieldOf}
 use Rattle.tree.proofs.Parts.{textIn}
 use Rattle.desk.specs.Events as desk
-use Rattle.desk.specs.History.{History, Call, has, unless, start, refusalOf, refusalOfField, accept, recorded, grown, keepText, keyText, mapMaybe, refresh, afterEvent, padded, ofText, ofNode, textSaid, caretSaid, metresSaid, rectSaid, fieldCount, rootId}
-use Rattle.desk.specs.History.Call.{insert, remove, setStyle, setStateTable, setPatchPool, makeField, solve, handle, nextOutput, fieldText, fieldCursor, metres, rect, live, firstChild, nextSibling, absorb}
+use Rattle.desk.specs.History.{History, Call, Change, Question, has, unless, start, refusalOf, refusalOfField, refusalOfChange, refusalOfQuestion, afterChange, accept, recorded, grown, keepText, keyText, mapMaybe, refresh, afterEvent, padded, ofText, ofNode, textSaid, caretSaid, metresSaid, rectSaid, fieldCount, rootId}
+use Rattle.desk.specs.History.Call.{insert, change, ask}
+use Rattle.desk.specs.History.Change.{remove, setStyle, setStateTable, setPatchPool, makeField, solve, handle, nextOutput}
+use Rattle.desk.specs.History.Question.{fieldText, fieldCursor, metres, rect, live, firstChild, nextSibling, absorb}
 use Rattle.desk.specs.Demand3.{step, run, numbers, feed, given, Machines, follow, refusals, Distinct}
-use Rattle.desk.specs.Keys.{typedOn, textOfKeys, Log, logKey, logEvent, beginAt, logField, logged, logs, noKeys}
+use Rattle.desk.specs.Keys.{typedOn, textOfKeys, Log, logKey, logEvent, beginAt, logField, loggedChange, logged, logs, noKeys}
 use Rattle.desk.specs.declared.UiEvent.{UiEvent}
 use Rattle.desk.specs.declared.UiEvent.the-variants.{PointerMoved, PointerPressed, PointerReleased, TextEntered, Edit}
 use Rattle.desk.specs.declared.Key.{Key}
@@ -90,25 +92,32 @@ field-not : (h : History) (m : Maybe Info) → refusalOfField h m ≡ 1 → ⊥
 field-not h nothing = λ e. omega arith
 field-not h (just x) = unless-not (hasField x || ltb (fieldCount (h .tree)) 8) 4 0 (λ e. omega arith) (λ e. omega arith)
 
+change-is-not-1 : (h : History) (c : Change) → refusalOfChange h c ≡ 1 → ⊥
+change-is-not-1 h (remove d) = unless-not (has h d) 3 _ (λ e. omega arith) (unless-not (not (sameId d rootId)) 5 0 (λ e. omega arith) (λ e. omega arith))
+change-is-not-1 h (setStyle d s) = unless-not (has h d) 3 0 (λ e. omega arith) (λ e. omega arith)
+change-is-not-1 h (setStateTable d table) = unless-not (has h d) 3 _ (λ e. omega arith) (unless-not (all (inPool (length (h .board .pool))) table) 6 0 (λ e. omega arith) (λ e. omega arith))
+change-is-not-1 h (setPatchPool patches count) = unless-not (not (ltb 64 count)) 7 0 (λ e. omega arith) (λ e. omega arith)
+change-is-not-1 h (makeField d) = field-not h (find d (h .tree))
+change-is-not-1 h (solve v) = λ e. omega arith
+change-is-not-1 h (handle e) = λ e. omega arith
+change-is-not-1 h nextOutput = λ e. omega arith
+
+question-is-not-1 : (h : History) (q : Question) → refusalOfQuestion h q ≡ 1 → ⊥
+unfolding textSaid caretSaid metresSaid rectSaid
+question-is-not-1 h (fieldText d) = node-not _ _ (λ x. text-not _ _ (λ t e. omega arith) (x .text)) (find d (h .tree))
+question-is-not-1 h (fieldCursor d) = node-not _ _ (λ x. text-not _ _ (λ t e. omega arith) (x .text)) (find d (h .tree))
+question-is-not-1 h (metres d) = node-not _ _ (λ x. text-not _ _ (λ t. metres-not (bytesOf t)) (x .text)) (find d (h .tree))
+question-is-not-1 h (rect d) = node-not _ _ (λ x e. omega arith) (find d (h .tree))
+question-is-not-1 h (live d) = λ e. omega arith
+question-is-not-1 h (firstChild d) = λ e. omega arith
+question-is-not-1 h (nextSibling d) = unless-not (has h d) 3 0 (λ e. omega arith) (λ e. omega arith)
+question-is-not-1 h (absorb s) = λ e. omega arith
+
 refusal-is-not-1 : (h : History) (c : Call) → refusalOf h c ≡ 1 → ⊥
-unfolding refusalOf textSaid caretSaid metresSaid rectSaid
+unfolding refusalOf
 refusal-is-not-1 h (insert d) = unless-not (has h d) 3 _ (λ e. omega arith) (unless-not (ltb (size (h .tree)) (h .limit)) 4 0 (λ e. omega arith) (λ e. omega arith))
-refusal-is-not-1 h (remove d) = unless-not (has h d) 3 _ (λ e. omega arith) (unless-not (not (sameId d rootId)) 5 0 (λ e. omega arith) (λ e. omega arith))
-refusal-is-not-1 h (setStyle d s) = unless-not (has h d) 3 0 (λ e. omega arith) (λ e. omega arith)
-refusal-is-not-1 h (setStateTable d table) = unless-not (has h d) 3 _ (λ e. omega arith) (unless-not (all (inPool (length (h .board .pool))) table) 6 0 (λ e. omega arith) (λ e. omega arith))
-refusal-is-not-1 h (setPatchPool patches count) = unless-not (not (ltb 64 count)) 7 0 (λ e. omega arith) (λ e. omega arith)
-refusal-is-not-1 h (makeField d) = field-not h (find d (h .tree))
-refusal-is-not-1 h (solve v) = λ e. omega arith
-refusal-is-not-1 h (handle e) = λ e. omega arith
-refusal-is-not-1 h nextOutput = λ e. omega arith
-refusal-is-not-1 h (fieldText d) = node-not _ _ (λ x. text-not _ _ (λ t e. omega arith) (x .text)) (find d (h .tree))
-refusal-is-not-1 h (fieldCursor d) = node-not _ _ (λ x. text-not _ _ (λ t e. omega arith) (x .text)) (find d (h .tree))
-refusal-is-not-1 h (metres d) = node-not _ _ (λ x. text-not _ _ (λ t. metres-not (bytesOf t)) (x .text)) (find d (h .tree))
-refusal-is-not-1 h (rect d) = node-not _ _ (λ x e. omega arith) (find d (h .tree))
-refusal-is-not-1 h (live d) = λ e. omega arith
-refusal-is-not-1 h (firstChild d) = λ e. omega arith
-refusal-is-not-1 h (nextSibling d) = unless-not (has h d) 3 0 (λ e. omega arith) (λ e. omega arith)
-refusal-is-not-1 h (absorb s) = λ e. omega arith
+refusal-is-not-1 h (change c) = change-is-not-1 h c
+refusal-is-not-1 h (ask q) = question-is-not-1 h q
 
 refusals-are-not-1 : (h : History) (cs : List Call) (fed : List NodeId) → NeverOne (refusals h cs fed)
 refusals-are-not-1 h [] fed = tt
@@ -242,37 +251,34 @@ refusal-of-no-node h nothing e = λ q. omega arith
 refusal-of-no-node h (just x) e = λ q. let z : _≡_ {A = ℕ} 0 1 = cc in omega arith
 
 module _ (k : ℕ) (u : Ui) (h : History) (v : Inv k u h) (log : Log) (a : AllF (ByKeys log) (h .tree)) (new : NodeId) where
-  call-logged : (c : Call) → refusalOf h c ≡ 0 → AllF (ByKeys (logged h c log)) (accept h c new .tree)
-  unfolding refusalOf accept logged grown wears restyled bare
-  call-logged (insert d) j =
-      all-set-kids-of (ByKeys log) d _ (h .tree)
-      (all-app (ByKeys log) (kidsOf d (h .tree)) _ (all-kids-of (ByKeys log) d (h .tree) a) ((λ t q. no-text nothing t refl q), tt, tt)) a
-  call-logged (remove d) j = all-cut-of (ByKeys log) d (h .tree) a
-  call-logged (setStyle d s) j = kept-by log _ (λ i g x. picked-both (hasBoth d i g) x (restyled s x) (refl, refl)) (h .tree) a
-  call-logged (setStateTable d table) j =
+  change-logged : (c : Change) → refusalOfChange h c ≡ 0 → AllF (ByKeys (loggedChange h c log)) (afterChange h c .tree)
+  unfolding wears restyled bare
+  change-logged (remove d) j = all-cut-of (ByKeys log) d (h .tree) a
+  change-logged (setStyle d s) j = kept-by log _ (λ i g x. picked-both (hasBoth d i g) x (restyled s x) (refl, refl)) (h .tree) a
+  change-logged (setStateTable d table) j =
       kept-by log _ (λ i g x. picked-both (hasBoth d i g) x (wears (h .board .pool) (x .bits) (withTable table x)) (refl, refl)) (h .tree) a
-  call-logged (setPatchPool patches count) j = kept-by log (λ i g x. bare x) (λ i g x. (refl, refl)) (h .tree) a
-  call-logged (makeField d) j =
+  change-logged (setPatchPool patches count) j = kept-by log (λ i g x. bare x) (λ i g x. (refl, refl)) (h .tree) a
+  change-logged (makeField d) j =
       bool-cases (hasId d (h .tree))
       (λ b. made (find-known (Own k u h v log a d) d (h .tree) (all-both (λ i g x. (x .name < length (h .named)) × (getD (h .named) (x .name) nobody ≡ record { index = i; generation = g })) (λ i g x. x .text ≡ textIn (fieldOf (record { index = i; generation = g }) (u .fields))) (h .tree) (v .naming .own) (v .texts .texts)) b))
       (λ b. absurd (refusal-of-no-node h (find d (h .tree)) (find-nothing d (h .tree) b) j))
     where
       made : Known (Own k u h v log a d) d (h .tree) → AllF (ByKeys (logField (find d (h .tree)) log)) (changeOf d (λ x. withField x (keepText (x .text))) (h .tree))
       made K = subst (λ (m : Maybe Info). AllF (ByKeys (logField m log)) (changeOf d (λ x. withField x (keepText (x .text))) (h .tree))) (sym (K .found)) (made-logged k u h v log a d (K .load) (K .found) (K .holds))
-  call-logged (solve w) j =
+  change-logged (solve w) j =
       bool-cases (not (h .board .dirty) && sameView (h .board .viewport) w)
       (λ b. rw b a)
       (λ b. rw b (placing-keeps-what-boxes-leave-alone (ByKeys log) (λ i g x r q. q) (h .tree) (viewRect w ∷ []) a))
-  call-logged (handle e) j = refresh-logged (afterEvent h e) (logEvent (h .input .focus) e log) (event-logged h e log a)
-  call-logged nextOutput j = a
-  call-logged (fieldText d) j = a
-  call-logged (fieldCursor d) j = a
-  call-logged (metres d) j = a
-  call-logged (rect d) j = a
-  call-logged (live d) j = a
-  call-logged (firstChild d) j = a
-  call-logged (nextSibling d) j = a
-  call-logged (absorb s) j = a
+  change-logged (handle e) j = refresh-logged (afterEvent h e) (logEvent (h .input .focus) e log) (event-logged h e log a)
+  change-logged nextOutput j = a
+
+  call-logged : (c : Call) → refusalOf h c ≡ 0 → AllF (ByKeys (logged h c log)) (accept h c new .tree)
+  unfolding refusalOf accept logged grown
+  call-logged (insert d) j =
+      all-set-kids-of (ByKeys log) d _ (h .tree)
+      (all-app (ByKeys log) (kidsOf d (h .tree)) _ (all-kids-of (ByKeys log) d (h .tree) a) ((λ t q. no-text nothing t refl q), tt, tt)) a
+  call-logged (change c) j = change-logged c j
+  call-logged (ask q) j = a
 
   recorded-logged : (c : Call) → AllF (ByKeys (pick (same (refusalOf h c) 0) (logged h c log) log)) (recorded h c new .tree)
   unfolding recorded

@@ -17,9 +17,10 @@ use Rattle.tree.proofs.Starts.{start-root-generation}
 use Rattle.tree.proofs.StartParts.{start-has-links, start-has-names, start-has-dress, start-has-a-pool, start-has-texts, start-has-a-queue}
 use Rattle.tree.proofs.ReadParts.{live-answers-whether-a-node-has-it, children-by-the-links-are-the-nodes, field-text-answers-the-nodes-text, field-cursor-answers-the-nodes-caret, metres-of-the-field-are-the-nodes, rect-answers-the-nodes-box}
 use Rattle.desk.specs.Events as desk
-use Rattle.desk.specs.History.{History, Call, limitFrom, start, refusalOf, accept, recorded, grown, refresh, afterEvent, textSaid, caretSaid, metresSaid, rectSaid, rootId}
-use Rattle.desk.specs.History.Call.{insert, remove, setStyle, setStateTable, setPatchPool, makeField, solve, handle, nextOutput, fieldText, fieldCursor, metres, rect, live, firstChild, nextSibling, absorb}
-use Rattle.desk.specs.Demand3.{step, run, numbers, feed, isInsert, given, Machines, follow, refusals, Agree, Others, Distinct, Demand3}
+use Rattle.desk.specs.History.{History, Call, Change, limitFrom, start, refusalOf, afterChange, accept, recorded, grown, refresh, afterEvent, textSaid, caretSaid, metresSaid, rectSaid, rootId}
+use Rattle.desk.specs.History.Call.{insert, change, ask}
+use Rattle.desk.specs.History.Change.{remove, setStyle, setStateTable, setPatchPool, makeField, solve, handle, nextOutput}
+use Rattle.desk.specs.Demand3.{step, run, numbers, feed, idGiven, given, Machines, follow, refusals, Agree, Others, Distinct, Demand3}
 use Rattle.desk.specs.declared.UiEvent.{UiEvent}
 use Rattle.desk.specs.declared.UiEvent.the-variants.{PointerMoved, PointerPressed, PointerReleased, TextEntered, Edit}
 use Rattle.desk.proofs.Invariant.{Inv}
@@ -100,52 +101,28 @@ refresh-keeps-names : (h : History) → refresh h .named ≡ h .named
 unfolding refresh
 refresh-keeps-names h = refl
 
--- the ids that a call adds
-abbrev added : Call → ℕ → NodeId → List NodeId
-added c n d = pick (isInsert c) (pick (same n 0) (d ∷ []) []) []
+change-keeps-names : (h : History) (c : Change) → afterChange h c .named ≡ h .named
+change-keeps-names h (remove d) = refl
+change-keeps-names h (setStyle d s) = refl
+change-keeps-names h (setStateTable d table) = refl
+change-keeps-names h (setPatchPool patches count) = refl
+change-keeps-names h (makeField d) = refl
+change-keeps-names h (solve w) = bool-cases (not (h .board .dirty) && sameView (h .board .viewport) w) (λ b. rw b) (λ b. rw b)
+change-keeps-names h (handle e) = refresh-keeps-names (afterEvent h e) ∙ event-keeps-names h e
+change-keeps-names h nextOutput = refl
 
-accepted-names : (h : History) (c : Call) (d : NodeId) → accept h c d .named ≡ h .named ++ pick (isInsert c) (d ∷ []) []
-unfolding accept grown
-accepted-names h (insert e) d = refl
-accepted-names h (remove e) d = sym (append-nil (h .named))
-accepted-names h (setStyle e s) d = sym (append-nil (h .named))
-accepted-names h (setStateTable e table) d = sym (append-nil (h .named))
-accepted-names h (setPatchPool patches count) d = sym (append-nil (h .named))
-accepted-names h (makeField e) d = sym (append-nil (h .named))
-accepted-names h (solve w) d =
-    bool-cases (not (h .board .dirty) && sameView (h .board .viewport) w) (λ b. rw b (sym (append-nil (h .named)))) (λ b. rw b (sym (append-nil (h .named))))
-accepted-names h (handle e) d = refresh-keeps-names (afterEvent h e) ∙ event-keeps-names h e ∙ sym (append-nil (h .named))
-accepted-names h nextOutput d = sym (append-nil (h .named))
-accepted-names h (fieldText e) d = sym (append-nil (h .named))
-accepted-names h (fieldCursor e) d = sym (append-nil (h .named))
-accepted-names h (metres e) d = sym (append-nil (h .named))
-accepted-names h (rect e) d = sym (append-nil (h .named))
-accepted-names h (live e) d = sym (append-nil (h .named))
-accepted-names h (firstChild e) d = sym (append-nil (h .named))
-accepted-names h (nextSibling e) d = sym (append-nil (h .named))
-accepted-names h (absorb s) d = sym (append-nil (h .named))
-
-pick-none : (b : Bool) → pick {A = List NodeId} b [] [] ≡ []
-pick-none true = refl
-pick-none false = refl
-
-recorded-names : (h : History) (c : Call) (d : NodeId) → recorded h c d .named ≡ h .named ++ added c (refusalOf h c) d
-unfolding recorded
-recorded-names h c d =
-    bool-cases (same (refusalOf h c) 0)
-    (λ b. rw b (accepted-names h c d))
-    (λ b. rw (b, pick-none (isInsert c)) (sym (append-nil (h .named))))
-
-given-by : (u : Ui) (c : Call) (cs : List Call) → given u (c ∷ cs) ≡ added c (step u c .number) (step u c .told) ++ given (step u c .next) cs
-given-by u c cs = go (isInsert c) (same (step u c .number) 0)
+-- a call that was refused alike adds the id that it gave
+recorded-names : (u : Ui) (h : History) (c : Call) → step u c .number ≡ refusalOf h c → recorded h c (step u c .told) .named ≡ h .named ++ idGiven c (step u c)
+unfolding recorded accept grown
+recorded-names u h (insert d) e = rw (← e) (go (same (step u (insert d) .number) 0))
   where
-    rest : List NodeId
-    rest = given (step u c .next) cs
-
-    go : (b e : Bool) → pick b (pick e (step u c .told ∷ rest) rest) rest ≡ pick b (pick e (step u c .told ∷ []) []) [] ++ rest
-    go true true = refl
-    go true false = refl
-    go false e = refl
+    go : (b : Bool) → pick b (grown h d (step u (insert d) .told)) h .named ≡ h .named ++ pick b (step u (insert d) .told ∷ []) []
+    go true = refl
+    go false = sym (append-nil (h .named))
+recorded-names u h (change c) e =
+    bool-cases (same (refusalOf h (change c)) 0) (λ b. rw b (change-keeps-names h c ∙ sym (append-nil (h .named)))) (λ b. rw b (sym (append-nil (h .named))))
+recorded-names u h (ask q) e =
+    bool-cases (same (refusalOf h (ask q)) 0) (λ b. rw b (sym (append-nil (h .named)))) (λ b. rw b (sym (append-nil (h .named))))
 
 -- ---- the list
 
@@ -169,9 +146,8 @@ runs k u h (c ∷ cs) v small m =
       ends = let e : k + suc (length cs) ≡ suc k + length cs = omega arith in rw e (r .ends);
       names =
           r .names
-          ∙ ap (λ (l : List NodeId). l ++ given (s .next) cs) (recorded-names h c (s .told) ∙ ap (λ (n : ℕ). h .named ++ added c n (s .told)) (sym (q .refused-so)))
-          ∙ append-assoc (h .named) (added c (s .number) (s .told)) (given (s .next) cs)
-          ∙ ap (λ (l : List NodeId). h .named ++ l) (sym (given-by u c cs));
+          ∙ ap (λ (l : List NodeId). l ++ given (s .next) cs) (recorded-names u h c (q .refused-so))
+          ∙ append-assoc (h .named) (idGiven c s) (given (s .next) cs);
     }
 
 -- ---- no id was given twice

@@ -31,25 +31,31 @@ use Rattle.desk.specs.declared.UiEvent.the-variants.{PointerMoved, Point
 use Rattle.desk.specs.declared.Key.{Key}
 use Rattle.desk.specs.declared.Key.the-variants.{Char, Op}
 
--- A call of the tree with its arguments.
+-- A call of the tree with its arguments: an insertion, which alone gives an id; another call that may change the tree; a read, which cannot.
+pub data Change : Type 0 where
+  remove : NodeId → Change
+  setStyle : NodeId → Style → Change
+  setStateTable : NodeId → List ℕ → Change
+  setPatchPool : List StatePatch → ℕ → Change
+  makeField : NodeId → Change
+  solve : Viewport → Change
+  handle : UiEvent → Change
+  nextOutput : Change
+
+pub data Question : Type 0 where
+  fieldText : NodeId → Question
+  fieldCursor : NodeId → Question
+  metres : NodeId → Question
+  rect : NodeId → Question
+  live : NodeId → Question
+  firstChild : NodeId → Question
+  nextSibling : NodeId → Question
+  absorb : StateHash → Question
+
 pub data Call : Type 0 where
   insert : NodeId → Call
-  remove : NodeId → Call
-  setStyle : NodeId → Style → Call
-  setStateTable : NodeId → List ℕ → Call
-  setPatchPool : List StatePatch → ℕ → Call
-  makeField : NodeId → Call
-  solve : Viewport → Call
-  handle : UiEvent → Call
-  nextOutput : Call
-  fieldText : NodeId → Call
-  fieldCursor : NodeId → Call
-  metres : NodeId → Call
-  rect : NodeId → Call
-  live : NodeId → Call
-  firstChild : NodeId → Call
-  nextSibling : NodeId → Call
-  absorb : StateHash → Call
+  change : Change → Call
+  ask : Question → Call
 
 -- The pointer, and the names of the nodes pressed and in focus, dead or not.
 pub record Input : Type 0 where
@@ -135,24 +141,30 @@ abbrev pub refusalOfField : History → Maybe Info → ℕ
 refusalOfField h nothing = numberOf Missing
 refusalOfField h (just x) = unless (hasField x || ltb (fieldCount (h .tree)) 8) (numberOf Full) 0
 
+abbrev pub refusalOfChange : History → Change → ℕ
+refusalOfChange h (remove d) = unless (has h d) (numberOf Missing) (unless (not (sameId d rootId)) (numberOf Root) 0)
+refusalOfChange h (setStyle d s) = unless (has h d) (numberOf Missing) 0
+refusalOfChange h (setStateTable d table) = unless (has h d) (numberOf Missing) (unless (all (inPool (length (h .board .pool))) table) (numberOf Foreign) 0)
+refusalOfChange h (setPatchPool patches count) = unless (not (ltb 64 count)) (numberOf Long) 0
+refusalOfChange h (makeField d) = refusalOfField h (find d (h .tree))
+refusalOfChange h (solve v) = 0
+refusalOfChange h (handle e) = 0
+refusalOfChange h nextOutput = 0
+
+abbrev pub refusalOfQuestion : History → Question → ℕ
+refusalOfQuestion h (fieldText d) = textSaid h d .number
+refusalOfQuestion h (fieldCursor d) = caretSaid h d .number
+refusalOfQuestion h (metres d) = metresSaid h d .number
+refusalOfQuestion h (rect d) = rectSaid h d .number
+refusalOfQuestion h (live d) = 0
+refusalOfQuestion h (firstChild d) = 0
+refusalOfQuestion h (nextSibling d) = unless (has h d) (numberOf Missing) 0
+refusalOfQuestion h (absorb s) = 0
+
 unfoldable pub refusalOf : History → Call → ℕ
 refusalOf h (insert d) = unless (has h d) (numberOf Missing) (unless (ltb (size (h .tree)) (h .limit)) (numberOf Full) 0)
-refusalOf h (remove d) = unless (has h d) (numberOf Missing) (unless (not (sameId d rootId)) (numberOf Root) 0)
-refusalOf h (setStyle d s) = unless (has h d) (numberOf Missing) 0
-refusalOf h (setStateTable d table) = unless (has h d) (numberOf Missing) (unless (all (inPool (length (h .board .pool))) table) (numberOf Foreign) 0)
-refusalOf h (setPatchPool patches count) = unless (not (ltb 64 count)) (numberOf Long) 0
-refusalOf h (makeField d) = refusalOfField h (find d (h .tree))
-refusalOf h (solve v) = 0
-refusalOf h (handle e) = 0
-refusalOf h nextOutput = 0
-refusalOf h (fieldText d) = textSaid h d .number
-refusalOf h (fieldCursor d) = caretSaid h d .number
-refusalOf h (metres d) = metresSaid h d .number
-refusalOf h (rect d) = rectSaid h d .number
-refusalOf h (live d) = 0
-refusalOf h (firstChild d) = 0
-refusalOf h (nextSibling d) = unless (has h d) (numberOf Missing) 0
-refusalOf h (absorb s) = 0
+refusalOf h (change c) = refusalOfChange h c
+refusalOf h (ask q) = refusalOfQuestion h q
 
 -- The node under the pointer, by this tree and these boxes.
 abbrev pub hitName : History → Maybe ℕ
@@ -203,16 +215,15 @@ abbrev pub keepText : Maybe Text → Maybe Text
 keepText nothing = just (text [] [])
 keepText (just t) = just t
 
--- What an accepted call makes of the history; `new` is the id that an insert gave.
-unfoldable pub accept : History → Call → NodeId → History
-accept h (insert d) new = grown h d new
-accept h (remove d) new = withTree h (cutOf d (h .tree)) true
-accept h (setStyle d s) new = withTree h (changeOf d (restyled s) (h .tree)) true
-accept h (setStateTable d table) new =
+-- What an accepted call makes of the history; `new` is the id that an insertion gave.
+abbrev pub afterChange : History → Change → History
+afterChange h (remove d) = withTree h (cutOf d (h .tree)) true
+afterChange h (setStyle d s) = withTree h (changeOf d (restyled s) (h .tree)) true
+afterChange h (setStateTable d table) =
     let pool = h .board .pool in
     withTree h (changeOf d (λ x. wears pool (x .bits) (withTable table x)) (h .tree))
     (h .board .dirty || anyF (λ i g x. hasBoth d i g && swaps pool (x .bits) (withTable table x)) (h .tree))
-accept h (setPatchPool patches count) new =
+afterChange h (setPatchPool patches count) =
     record {
       limit = h .limit;
       tree = mapF (λ i g x. bare x) (h .tree);
@@ -220,20 +231,17 @@ accept h (setPatchPool patches count) new =
       board = record { pool = take count patches; viewport = h .board .viewport; dirty = h .board .dirty || anyF (λ i g x. not (same (x .applied) noPatch)) (h .tree) };
       input = h .input;
     }
-accept h (makeField d) new = withTree h (changeOf d (λ x. withField x (keepText (x .text))) (h .tree)) (h .board .dirty)
-accept h (solve v) new =
+afterChange h (makeField d) = withTree h (changeOf d (λ x. withField x (keepText (x .text))) (h .tree)) (h .board .dirty)
+afterChange h (solve v) =
     pick (not (h .board .dirty) && sameView (h .board .viewport) v) h
     (record { limit = h .limit; tree = placeF (h .tree) (viewRect v ∷ []); named = h .named; board = record { pool = h .board .pool; viewport = v; dirty = false }; input = h .input })
-accept h (handle e) new = refresh (afterEvent h e)
-accept h nextOutput new = h
-accept h (fieldText d) new = h
-accept h (fieldCursor d) new = h
-accept h (metres d) new = h
-accept h (rect d) new = h
-accept h (live d) new = h
-accept h (firstChild d) new = h
-accept h (nextSibling d) new = h
-accept h (absorb s) new = h
+afterChange h (handle e) = refresh (afterEvent h e)
+afterChange h nextOutput = h
+
+unfoldable pub accept : History → Call → NodeId → History
+accept h (insert d) new = grown h d new
+accept h (change c) new = afterChange h c
+accept h (ask q) new = h
 
 -- A refused call changes nothing.
 unfoldable pub recorded : History → Call → NodeId → History
