@@ -52,6 +52,7 @@ use Rattle.desk.proofs.Demand3.{starts, demand-3}
 -- ---- ids
 
 pub no-id-is-given-twice : (limit : ℕ) → limit < 2 ^ 32 → (cs : List Call) → length cs < 2 ^ 63 → Machines cs → Distinct (rootId ∷ given (tree.newTree limit .next) cs)
+unfolding start
 no-id-is-given-twice limit l cs n m = demand-3 limit l cs n m .ids-differ
 
 -- ---- number 1

@@ -17,10 +17,10 @@ use Rattle.tree.proofs.Starts.{start-root-generation}
 use Rattle.tree.proofs.StartParts.{start-has-links, start-has-names, start-has-dress, start-has-a-pool, start-has-texts, start-has-a-queue}
 use Rattle.tree.proofs.ReadParts.{live-answers-whether-a-node-has-it, children-by-the-links-are-the-nodes, field-text-answers-the-nodes-text, field-cursor-answers-the-nodes-caret, metres-of-the-field-are-the-nodes, rect-answers-the-nodes-box}
 use Rattle.desk.specs.Events as desk
-use Rattle.desk.specs.History.{History, Call, Change, limitFrom, start, refusalOf, afterChange, accept, recorded, grown, refresh, afterEvent, textSaid, caretSaid, metresSaid, rectSaid, rootId}
+use Rattle.desk.specs.History.{History, Call, Change, limitFrom, start, refusalOf, afterChange, accept, recorded, grown, refresh, afterEvent, textSaid, caretSaid, metresSaid, rectSaid}
 use Rattle.desk.specs.History.Call.{insert, change, ask}
 use Rattle.desk.specs.History.Change.{remove, setStyle, setStateTable, setPatchPool, makeField, solve, handle, nextOutput}
-use Rattle.desk.specs.Demand3.{step, run, numbers, feed, idGiven, given, Machines, follow, refusals, Agree, Others, Distinct, Demand3}
+use Rattle.desk.specs.Demand3.{step, run, numbers, feed, idGiven, given, Machines, follow, refusals, Agree, Others, Distinct, HoldsFrom, Demand3}
 use Rattle.desk.specs.declared.UiEvent.{UiEvent}
 use Rattle.desk.specs.declared.UiEvent.the-variants.{PointerMoved, PointerPressed, PointerReleased, TextEntered, Edit}
 use Rattle.desk.proofs.Invariant.{Inv}
@@ -126,21 +126,22 @@ recorded-names u h (ask q) e =
 
 -- ---- the list
 
-pub record Runs (k : ℕ) (u : Ui) (h : History) (cs : List Call) : Type 0 where
+-- a list of calls: refused alike, related at its end, and each id given has a name
+pub record Followed (k : ℕ) (u : Ui) (h : History) (cs : List Call) : Type 0 where
   pub alike : numbers u cs ≡ refusals h cs (feed u cs)
   pub ends : Inv (k + length cs) (run u cs) (follow h cs (feed u cs))
   pub names : follow h cs (feed u cs) .named ≡ h .named ++ given u cs
 
-pub runs : (k : ℕ) (u : Ui) (h : History) (cs : List Call) → Inv k u h → k + length cs < 2 ^ 63 → Machines cs → Runs k u h cs
-runs k u h [] v small m = record {
+pub follows : (k : ℕ) (u : Ui) (h : History) (cs : List Call) → Inv k u h → k + length cs < 2 ^ 63 → Machines cs → Followed k u h cs
+follows k u h [] v small m = record {
   alike = refl;
   ends = let e : k + 0 ≡ k = omega arith in rw e v;
   names = sym (append-nil (h .named));
 }
-runs k u h (c ∷ cs) v small m =
+follows k u h (c ∷ cs) v small m =
     let s = step u c in
     let q : Kept k u h c = every-call k u h v (omega arith) c (m .0) in
-    let r : Runs (suc k) (s .next) (recorded h c (s .told)) cs = runs (suc k) (s .next) (recorded h c (s .told)) cs (q .goes-on) (omega arith) (m .1) in
+    let r : Followed (suc k) (s .next) (recorded h c (s .told)) cs = follows (suc k) (s .next) (recorded h c (s .told)) cs (q .goes-on) (omega arith) (m .1) in
     record {
       alike = ap₂ (λ (n : ℕ) (ns : List ℕ). n ∷ ns) (q .refused-so) (r .alike);
       ends = let e : k + suc (length cs) ≡ suc k + length cs = omega arith in rw e (r .ends);
@@ -164,14 +165,14 @@ apart-is-distinct (d ∷ ds) h =
 
 -- ---- the theorem
 
-pub demand-3 : Demand3
-unfolding start
-demand-3 limit l cs n m =
-    let u = tree.newTree limit .next in
-    let h = start limit in
-    let r : Runs 0 u h cs = runs 0 u h cs (starts limit) (omega arith) m in
+pub holds-from : HoldsFrom Inv
+holds-from k u h v cs small m =
+    let r : Followed k u h cs = follows k u h cs v small m in
     record {
       refused-alike = r .alike;
-      ids-differ = apart-is-distinct (rootId ∷ given u cs) (subst (λ (ds : List NodeId). (i j : ℕ) → i < length ds → j < length ds → getD ds i nobody ≡ getD ds j nobody → i ≡ j) (r .names) (r .ends .naming .apart));
-      agree = agrees (0 + length cs) (run u cs) (follow h cs (feed u cs)) (r .ends);
+      ids-differ = apart-is-distinct (h .named ++ given u cs) (subst (λ (ds : List NodeId). (i j : ℕ) → i < length ds → j < length ds → getD ds i nobody ≡ getD ds j nobody → i ≡ j) (r .names) (r .ends .naming .apart));
+      agree = agrees (k + length cs) (run u cs) (follow h cs (feed u cs)) (r .ends);
     }
+
+pub demand-3 : Demand3
+demand-3 limit l cs n m = holds-from 0 (tree.newTree limit .next) (start limit) (starts limit) cs (omega arith) m

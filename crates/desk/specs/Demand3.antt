@@ -3,7 +3,7 @@
 -- What it promises the harbour master: whatever was inserted, removed, styled, pressed and typed before, and however slots and fields were
 -- used again, a live node answers as if every node ever made had a name of its own. Its text is made of the keys that were handled while it had
 -- the focus, and of no other ship's; a field into which no key fell is empty and reads as 9, never as 0; its box is that of the last pass.
-use Prim.Native.Nat.{ℕ, zero, suc, _<_, _^_}
+use Prim.Native.Nat.{ℕ, zero, suc, _+_, _<_, _^_}
 use mathlib.Core.Path.{_≡_}
 use mathlib.Core.Bool.{false}
 use mathlib.Core.List.{List, [], _∷_, _++_}
@@ -19,7 +19,7 @@ use Rattle.tree.specs.Calls as tree
 use Rattle.tree.specs.Calls.{Outcome, nobody}
 use Rattle.tree.specs.declared.Ui.{Ui}
 use Rattle.desk.specs.Events as desk
-use Rattle.desk.specs.History.{History, Call, Change, Question, start, refusalOf, recorded, textSaid, caretSaid, metresSaid, rectSaid, idNamed, rootId}
+use Rattle.desk.specs.History.{History, Call, Change, Question, start, refusalOf, recorded, textSaid, caretSaid, metresSaid, rectSaid, idNamed}
 use Rattle.desk.specs.History.Call.{insert, change, ask}
 use Rattle.desk.specs.History.Change.{remove, setStyle, setStateTable, setPatchPool, makeField, solve, handle, nextOutput}
 use Rattle.desk.specs.History.Question.{fieldText, fieldCursor, metres, rect, live, firstChild, nextSibling, absorb}
@@ -148,11 +148,18 @@ abbrev pub Distinct : List NodeId → Type 0
 Distinct [] = Unit {0}
 Distinct (d ∷ ds) = Others d ds × Distinct ds
 
--- Of a limit and a list of calls: each call was refused just as the history says, no id was given twice, and then all is as the history says.
-pub record Holds (limit : ℕ) (cs : List Call) : Type 0 where
-  pub refused-alike : numbers (tree.newTree limit .next) cs ≡ refusals (start limit) cs (feed (tree.newTree limit .next) cs)
-  pub ids-differ : Distinct (rootId ∷ given (tree.newTree limit .next) cs)
-  pub agree : Agree (run (tree.newTree limit .next) cs) (follow (start limit) cs (feed (tree.newTree limit .next) cs))
+-- Of a tree and a history to start from, and a list of calls: each call is refused just as the history says, no id is given twice or was given before,
+-- and then all is as the history says.
+pub record Holds (u : Ui) (h : History) (cs : List Call) : Type 0 where
+  pub refused-alike : numbers u cs ≡ refusals h cs (feed u cs)
+  pub ids-differ : Distinct (h .named ++ given u cs)
+  pub agree : Agree (run u cs) (follow h cs (feed u cs))
 
+-- The claim from wherever tree and history are related, k calls after they began. It is proved of the relation in proofs/Invariant.antt,
+-- so a start needs only to be so related.
+abbrev pub HoldsFrom : (ℕ → Ui → History → Type 0) → Type 0
+HoldsFrom Related = (k : ℕ) (u : Ui) (h : History) → Related k u h → (cs : List Call) → k + length cs < 2 ^ 63 → Machines cs → Holds u h cs
+
+-- Demand 3: from the new tree of any limit, where the root's id is the one that was given before.
 abbrev pub Demand3 : Type 0
-Demand3 = (limit : ℕ) → limit < 2 ^ 32 → (cs : List Call) → length cs < 2 ^ 63 → Machines cs → Holds limit cs
+Demand3 = (limit : ℕ) → limit < 2 ^ 32 → (cs : List Call) → length cs < 2 ^ 63 → Machines cs → Holds (tree.newTree limit .next) (start limit) cs
