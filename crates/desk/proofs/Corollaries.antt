@@ -21,15 +21,14 @@ use Rattle.field.specs.Metres.{isPoint, isDigit, behind, metresOf}
 use Rattle.field.specs.declared.NodeId.{NodeId}
 use Rattle.tree.specs.Tests.{pick, same, all, Maybe, nothing, just}
 use Rattle.tree.specs.States.{inPool, sameId}
-use Rattle.tree.specs.Forest.{Forest, nil, node, app, hasBoth, hasId, kidsOf, setKidsOf, cutOf, find, size, mapF}
+use Rattle.tree.specs.Forest.{Forest, nil, node, hasBoth, hasId, kidsOf, setKidsOf, cutOf, find, size}
 use Rattle.tree.specs.Nodes.{Info, withField, changeNamed, changeOf, wears, restyled, withTable, bare, hasField}
 use Rattle.tree.specs.Layout.{viewRect}
 use Rattle.tree.specs.Calls as tree
 use Rattle.tree.specs.Calls.{noText, nobody, sameView}
 use Rattle.tree.specs.declared.Ui.{Ui}
 use Rattle.tree.proofs.TestLaws.{bool-cases, eq-cases, same-refl}
-use Rattle.tree.proofs.Payloads.{AllF, all-map, all-both, all-mapF}
-use Rattle.tree.proofs.PassLaws.{placing-keeps-what-boxes-leave-alone}
+use Rattle.tree.proofs.Payloads.{AllF, all-map, all-app, all-both, all-mapF}
 use Rattle.tree.proofs.Ids.{Known, find-known, find-nothing}
 use Rattle.tree.proofs.FieldLaws.{one-id-is-the-other, to-have-an-id-is-to-be-named-by-it}
 use Rattle.tree.specs.Fields.{fieldOf}
@@ -45,7 +44,7 @@ use Rattle.desk.specs.declared.UiEvent.{UiEvent}
 use Rattle.desk.specs.declared.UiEvent.the-variants.{PointerMoved, PointerPressed, PointerReleased, TextEntered, Edit}
 use Rattle.desk.specs.declared.Key.{Key}
 use Rattle.desk.specs.declared.Key.the-variants.{Char, Op}
-use Rattle.desk.proofs.Invariant.{Inv}
+use Rattle.desk.proofs.Invariant.{OwnName, OwnText, Inv, Restyled, restyled-each, restyled-some, restyled-by-a-pass}
 use Rattle.desk.proofs.CallSteps.{Kept, every-call}
 use Rattle.desk.proofs.Demand3.{starts, demand-3}
 
@@ -143,14 +142,10 @@ no-text m t e f = let z : _≡_ {A = ℕ} 0 1 = cc in absurd (omega arith)
 
 -- by id, as the history changes its nodes
 module _ (P : ℕ → ℕ → Info → Type 0) where
-  all-app : (f t : Forest Info) → AllF P f → AllF P t → AllF P (app f t)
-  all-app nil t a b = b
-  all-app (node i g x cs sib) t a b = (a .0, a .1, all-app sib t (a .2) b)
-
   all-kids-of : (d : NodeId) (f : Forest Info) → AllF P f → AllF P (kidsOf d f)
   all-kids-of d nil a = tt
   all-kids-of d (node i g x cs sib) a =
-      all-app (pick (hasBoth d i g) cs (kidsOf d cs)) (kidsOf d sib)
+      all-app P (pick (hasBoth d i g) cs (kidsOf d cs)) (kidsOf d sib)
       (bool-cases (hasBoth d i g) (λ b. rw b (a .1)) (λ b. rw b (all-kids-of d cs (a .1)))) (all-kids-of d sib (a .2))
 
   all-set-kids-of : (d : NodeId) (k f : Forest Info) → AllF P k → AllF P f → AllF P (setKidsOf d k f)
@@ -164,19 +159,13 @@ module _ (P : ℕ → ℕ → Info → Type 0) where
       bool-cases (hasBoth d i g) (λ b. rw b (a .2)) (λ b. rw b (a .0, all-cut-of d cs (a .1), all-cut-of d sib (a .2)))
 
 -- nodes that keep name and text
-kept-by : (log : Log) (w : ℕ → ℕ → Info → Info) → ((i g : ℕ) (x : Info) → (w i g x .name ≡ x .name) × (w i g x .text ≡ x .text)) → (t : Forest Info) → AllF (ByKeys log) t → AllF (ByKeys log) (mapF w t)
-kept-by log w e t a =
-    all-mapF (ByKeys log) w t (all-map (ByKeys log) (λ i g x. ByKeys log i g (w i g x)) t
-    (λ i g x _ p y q. p y (sym (e i g x .1) ∙ q) ∙ ap (λ (m : ℕ). textOfKeys (log m)) (sym (e i g x .0))) a)
-
-picked-both : (b : Bool) (x y : Info) → (y .name ≡ x .name) × (y .text ≡ x .text) → (pick b y x .name ≡ x .name) × (pick b y x .text ≡ x .text)
-picked-both true x y e = e
-picked-both false x y e = (refl, refl)
+kept : (log : Log) {t t′ : Forest Info} → Restyled t t′ → AllF (ByKeys log) t → AllF (ByKeys log) t′
+kept log r a = r .keeps (ByKeys log) (λ i g x y en et p z q. p z (sym et ∙ q) ∙ ap (λ (m : ℕ). textOfKeys (log m)) (sym en)) a
 
 -- a key
 key-logged : (log : Log) (focus : Maybe ℕ) (key : Key) (t : Forest Info) → AllF (ByKeys log) t
     → AllF (ByKeys (logKey focus key log)) (changeNamed focus (λ x. withField x (mapMaybe (keyText key) (x .text))) t)
-key-logged log nothing key t a = kept-by log _ (λ i g x. (refl, refl)) t a
+key-logged log nothing key t a = kept log (restyled-each _ (λ i g x. (refl, refl)) t) a
 key-logged log (just m) key t a =
     all-mapF (ByKeys (logKey (just m) key log)) (λ i g x. pick (same m (x .name)) (withField x (mapMaybe (keyText key) (x .text))) x) t
     (all-map (ByKeys log) (λ i g x. ByKeys (logKey (just m) key log) i g (pick (same m (x .name)) (withField x (mapMaybe (keyText key) (x .text))) x)) t
@@ -200,13 +189,12 @@ event-logged h (Edit op) log a = key-logged log (h .input .focus) (Op op) (h .tr
 
 refresh-logged : (h : History) (log : Log) → AllF (ByKeys log) (h .tree) → AllF (ByKeys log) (refresh h .tree)
 unfolding refresh wears
-refresh-logged h log a = kept-by log _ (λ i g x. (refl, refl)) (h .tree) a
+refresh-logged h log a = kept log (restyled-each _ (λ i g x. (refl, refl)) (h .tree)) a
 
 -- a field made
 module _ (k : ℕ) (u : Ui) (h : History) (v : Inv k u h) (log : Log) (a : AllF (ByKeys log) (h .tree)) (d : NodeId) where
   abbrev Own : ℕ → ℕ → Info → Type 0
-  Own i g x = ((x .name < length (h .named)) × (getD (h .named) (x .name) nobody ≡ record { index = i; generation = g }))
-      × (x .text ≡ textIn (fieldOf (record { index = i; generation = g }) (u .fields)))
+  Own i g x = OwnName (h .named) i g x × OwnText (u .fields) i g x
 
   -- of two nodes, those with the id have one name and one text, and no other has that name
   made-logged : (x₀ : Info) → find d (h .tree) ≡ just x₀ → Own (d .index) (d .generation) x₀
@@ -218,12 +206,12 @@ module _ (k : ℕ) (u : Ui) (h : History) (v : Inv k u h) (log : Log) (a : AllF 
       (λ b. rw b (the-node i g x (q .0) (q .1) (one-id-is-the-other d (record { index = i; generation = g }) (sym (to-have-an-id-is-to-be-named-by-it d i g) ∙ b)) (x₀ .text) refl))
       (λ b. rw b (another i g x (q .0) (q .1) b (x₀ .text))))
       (all-both (ByKeys log) Own (h .tree) a
-      (all-both (λ i g x. (x .name < length (h .named)) × (getD (h .named) (x .name) nobody ≡ record { index = i; generation = g })) (λ i g x. x .text ≡ textIn (fieldOf (record { index = i; generation = g }) (u .fields))) (h .tree) (v .naming .own) (v .texts .texts))))
+      (all-both (OwnName (h .named)) (OwnText (u .fields)) (h .tree) (v .nodes .naming .own) (v .nodes .texts .texts))))
     where
       the-node : (i g : ℕ) (x : Info) → ByKeys log i g x → Own i g x → d ≡ record { index = i; generation = g } → (o : Maybe Text) → x₀ .text ≡ o
           → (t : Text) → keepText (x .text) ≡ just t → t ≡ textOfKeys (beginAt o (x₀ .name) log (x .name))
       the-node i g x p own e nothing z t q =
-          let n : x .name ≡ x₀ .name = v .naming .apart (x .name) (x₀ .name) (own .0 .0) (own₀ .0 .0) (own .0 .1 ∙ sym e ∙ sym (own₀ .0 .1)) in
+          let n : x .name ≡ x₀ .name = v .nodes .naming .apart (x .name) (x₀ .name) (own .0 .0) (own₀ .0 .0) (own .0 .1 ∙ sym e ∙ sym (own₀ .0 .1)) in
           let y : x .text ≡ nothing = own .1 ∙ ap (λ (c : NodeId). textIn (fieldOf c (u .fields))) (sym e) ∙ sym (own₀ .1) ∙ z in
           let r : just (text [] []) ≡ just t = sym (ap keepText y) ∙ q in
           let s : text [] [] ≡ t = cc in
@@ -255,13 +243,13 @@ module _ (k : ℕ) (u : Ui) (h : History) (v : Inv k u h) (log : Log) (a : AllF 
   change-logged : (c : Change) → refusalOfChange h c ≡ 0 → AllF (ByKeys (loggedChange h c log)) (afterChange h c .tree)
   unfolding wears restyled bare
   change-logged (remove d) j = all-cut-of (ByKeys log) d (h .tree) a
-  change-logged (setStyle d s) j = kept-by log _ (λ i g x. picked-both (hasBoth d i g) x (restyled s x) (refl, refl)) (h .tree) a
+  change-logged (setStyle d s) j = kept log (restyled-some (hasBoth d) (restyled s) (λ x. (refl, refl)) (h .tree)) a
   change-logged (setStateTable d table) j =
-      kept-by log _ (λ i g x. picked-both (hasBoth d i g) x (wears (h .board .pool) (x .bits) (withTable table x)) (refl, refl)) (h .tree) a
-  change-logged (setPatchPool patches count) j = kept-by log (λ i g x. bare x) (λ i g x. (refl, refl)) (h .tree) a
+      kept log (restyled-some (hasBoth d) (λ x. wears (h .board .pool) (x .bits) (withTable table x)) (λ x. (refl, refl)) (h .tree)) a
+  change-logged (setPatchPool patches count) j = kept log (restyled-each (λ i g x. bare x) (λ i g x. (refl, refl)) (h .tree)) a
   change-logged (makeField d) j =
       bool-cases (hasId d (h .tree))
-      (λ b. made (find-known (Own k u h v log a d) d (h .tree) (all-both (λ i g x. (x .name < length (h .named)) × (getD (h .named) (x .name) nobody ≡ record { index = i; generation = g })) (λ i g x. x .text ≡ textIn (fieldOf (record { index = i; generation = g }) (u .fields))) (h .tree) (v .naming .own) (v .texts .texts)) b))
+      (λ b. made (find-known (Own k u h v log a d) d (h .tree) (all-both (OwnName (h .named)) (OwnText (u .fields)) (h .tree) (v .nodes .naming .own) (v .nodes .texts .texts)) b))
       (λ b. absurd (refusal-of-no-node h (find d (h .tree)) (find-nothing d (h .tree) b) j))
     where
       made : Known (Own k u h v log a d) d (h .tree) → AllF (ByKeys (logField (find d (h .tree)) log)) (changeOf d (λ x. withField x (keepText (x .text))) (h .tree))
@@ -269,7 +257,7 @@ module _ (k : ℕ) (u : Ui) (h : History) (v : Inv k u h) (log : Log) (a : AllF 
   change-logged (solve w) j =
       bool-cases (not (h .board .dirty) && sameView (h .board .viewport) w)
       (λ b. rw b a)
-      (λ b. rw b (placing-keeps-what-boxes-leave-alone (ByKeys log) (λ i g x r q. q) (h .tree) (viewRect w ∷ []) a))
+      (λ b. rw b (kept log (restyled-by-a-pass (h .tree) (viewRect w ∷ [])) a))
   change-logged (handle e) j = refresh-logged (afterEvent h e) (logEvent (h .input .focus) e log) (event-logged h e log a)
   change-logged nextOutput j = a
 
@@ -290,7 +278,7 @@ runs-logged : (k : ℕ) (u : Ui) (h : History) (cs : List Call) → Inv k u h �
 runs-logged k u h [] v small m log a = a
 runs-logged k u h (c ∷ cs) v small m log a =
     let s = step u c in
-    let q : Kept k u h c = every-call k u h v (omega arith) c (m .0) in
+    let q : Kept k u h c = every-call v (omega arith) c (m .0) in
     runs-logged (suc k) (s .next) (recorded h c (s .told)) cs (q .goes-on) (omega arith) (m .1)
     (pick (same (refusalOf h c) 0) (logged h c log) log) (recorded-logged k u h v log a (s .told) c)
 

@@ -51,22 +51,16 @@ starts-fresh limit =
     let n = limitFrom limit in
     let r = limit-in-range limit in
     record {
-      links = start-has-links n (r .0) (r .1);
-      naming = start-has-names n (r .0) (r .1);
-      dress = start-has-dress n (r .0) (r .1);
-      pool = start-has-a-pool n (r .0) (r .1);
-      texts = start-has-texts n (r .0) (r .1);
+      nodes = record {
+        links = start-has-links n (r .0) (r .1);
+        naming = start-has-names n (r .0) (r .1);
+        texts = start-has-texts n (r .0) (r .1);
+        root-is = start-root-generation n;
+        limit-is = refl;
+      };
+      styling = record { dress = start-has-dress n (r .0) (r .1); pool = start-has-a-pool n (r .0) (r .1); pool-is = refl; view-is = refl; dirty-is = refl };
+      input = record { pointer-is = refl; pressed = record { is-id = refl; is-in = tt }; focus = record { is-id = refl; is-in = tt } };
       queue = start-has-a-queue n (r .0) (r .1);
-      root-is = start-root-generation n;
-      limit-is = refl;
-      pool-is = refl;
-      view-is = refl;
-      dirty-is = refl;
-      pointer-is = refl;
-      pressed-is = refl;
-      focus-is = refl;
-      pressed-named = tt;
-      focus-named = tt;
     }
 
 pub starts : (limit : ℕ) → Inv 0 (tree.newTree limit .next) (start limit)
@@ -77,15 +71,15 @@ starts limit = subst (λ (u : Ui). Inv 0 u (start limit)) (sym (new-is-fresh lim
 pub agrees : (k : ℕ) (u : Ui) (h : History) → Inv k u h → Agree u h
 unfolding textSaid caretSaid metresSaid rectSaid desk.metres
 agrees k u h v =
-    let b = sound k u h v in
+    let b = sound v in
     record {
-      live-is = live-answers-whether-a-node-has-it (v .links) b;
-      children-are = children-by-the-links-are-the-nodes (v .links) b;
-      text-is = field-text-answers-the-nodes-text (v .links) b (v .texts);
-      caret-is = field-cursor-answers-the-nodes-caret (v .links) b (v .texts);
-      metres-are = metres-of-the-field-are-the-nodes (v .links) b (v .texts);
-      rect-is = rect-answers-the-nodes-box (v .links) b (v .dress .boxed);
-      focus-is = v .focus-is;
+      live-is = live-answers-whether-a-node-has-it (v .nodes .links) b;
+      children-are = children-by-the-links-are-the-nodes (v .nodes .links) b;
+      text-is = field-text-answers-the-nodes-text (v .nodes .links) b (v .nodes .texts);
+      caret-is = field-cursor-answers-the-nodes-caret (v .nodes .links) b (v .nodes .texts);
+      metres-are = metres-of-the-field-are-the-nodes (v .nodes .links) b (v .nodes .texts);
+      rect-is = rect-answers-the-nodes-box (v .nodes .links) b (v .styling .dress .boxed);
+      focus-is = v .input .focus .is-id;
     }
 
 -- ---- the names that were made are the ids that were given
@@ -140,7 +134,7 @@ follows k u h [] v small m = record {
 }
 follows k u h (c ∷ cs) v small m =
     let s = step u c in
-    let q : Kept k u h c = every-call k u h v (omega arith) c (m .0) in
+    let q : Kept k u h c = every-call v (omega arith) c (m .0) in
     let r : Followed (suc k) (s .next) (recorded h c (s .told)) cs = follows (suc k) (s .next) (recorded h c (s .told)) cs (q .goes-on) (omega arith) (m .1) in
     record {
       alike = ap₂ (λ (n : ℕ) (ns : List ℕ). n ∷ ns) (q .refused-so) (r .alike);
@@ -170,7 +164,7 @@ holds-from k u h v cs small m =
     let r : Followed k u h cs = follows k u h cs v small m in
     record {
       refused-alike = r .alike;
-      ids-differ = apart-is-distinct (h .named ++ given u cs) (subst (λ (ds : List NodeId). (i j : ℕ) → i < length ds → j < length ds → getD ds i nobody ≡ getD ds j nobody → i ≡ j) (r .names) (r .ends .naming .apart));
+      ids-differ = apart-is-distinct (h .named ++ given u cs) (subst (λ (ds : List NodeId). (i j : ℕ) → i < length ds → j < length ds → getD ds i nobody ≡ getD ds j nobody → i ≡ j) (r .names) (r .ends .nodes .naming .apart));
       agree = agrees (k + length cs) (run u cs) (follow h cs (feed u cs)) (r .ends);
     }
 
