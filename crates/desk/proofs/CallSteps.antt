@@ -9,136 +9,65 @@ use borrow.Author.Tests.{lt-ltb, le-ltb, ltb-false}
 use lib.Dec.{ltb}
 use lib.ListN.{length, length-append, List·getD-append}
 use lib.Seq.{length-take-le}
-use Rattle.text.specs.Refusal.{Answer}
-use Rattle.text.specs.declared.refusal.Refusal.the-variants.{Missing, Full, Root, Foreign, Long}
-use Rattle.field.specs.Text.{text}
+use Rattle.text.specs.declared.refusal.Refusal.the-variants.{Full, Root, Foreign, Long}
 use Rattle.field.specs.declared.NodeId.{NodeId}
 use Rattle.field.specs.declared.MaybeId.{MaybeId}
 use Rattle.field.specs.declared.MaybeId.the-variants.{Absent, Present}
 use Rattle.field.specs.declared.Field.{Field}
-use Rattle.tree.specs.Tests.{pick, same, δ, all, Maybe, nothing, just}
+use Rattle.tree.specs.Tests.{same, δ, all, Maybe, nothing, just}
 use Rattle.tree.specs.Slots.{NIL, idAt, at}
 use Rattle.tree.specs.Styles.{noPatch}
 use Rattle.tree.specs.States.{inPool, sameId, styledAt, tabledAt}
 use Rattle.tree.specs.Layout.{passed, viewRect}
-use Rattle.tree.specs.Forest.{Forest, nil, node, hasBoth, find, size, anyF, cutOf}
+use Rattle.tree.specs.Forest.{Forest, nil, node, hasBoth, size, anyF, cutOf}
 use Rattle.tree.specs.Nodes.{Info, changeOf, wears, swaps, restyled, withTable, bare, placeF, hasField, bit}
 use Rattle.tree.specs.Fields.{fieldOf, firstField, vacant, reclaimed, claimed}
-use Rattle.tree.specs.Rules.{broken}
-use Rattle.tree.specs.Trees.{limitOf, waitingOf, withNodes, withLooks, withPool, withFields, withPass}
+use Rattle.tree.specs.Trees.{limitOf, waitingOf, withWaiting, withNodes, withLooks, withPool, withFields, withPass}
 use Rattle.tree.specs.Calls as tree
-use Rattle.tree.specs.Calls.{Outcome, gives, refuses, guarded, onLive, nobody, sameView, insertAt, removeAt, pooled, takeField, takeVacant}
+use Rattle.tree.specs.Calls.{onLive, nobody, sameView, insertAt, removeAt, pooled, takeField}
 use Rattle.tree.specs.declared.Ui.{Ui}
 use Rattle.tree.specs.declared.Style.{Style}
-use Rattle.tree.specs.declared.Rect.{Rect}
 use Rattle.tree.specs.declared.StatePatch.{StatePatch}
 use Rattle.tree.specs.declared.Viewport.{Viewport}
 use Rattle.tree.proofs.TestLaws.{bool-cases, same-yes, same-no, eq-cases, δ-other}
 use Rattle.tree.proofs.ForestLaws.{cnt, wt}
-use Rattle.tree.proofs.Ids.{root-is-live, live-just-where-a-node-has-it, live-id, free-cases, Known, find-known, find-nothing}
+use Rattle.tree.proofs.Ids.{root-is-live, live-id, free-cases, Known, find-known, find-nothing}
 use Rattle.tree.proofs.Parts.{Links, Dress, textIn}
 use Rattle.tree.proofs.LookParts.{style-keeps-dress, table-keeps-dress, table-dirties, pool-keeps-dress, pool-dirties, pass-keeps-dress}
-use Rattle.tree.proofs.CallParts.{an-insertion-below-the-limit-is-accepted, a-pass-that-is-due-is-made}
 use Rattle.tree.proofs.InsertParts.{insert-keeps-links, insert-keeps-dress, insert-keeps-texts, insert-keeps-naming, withChild, an-insertion-raises-one-epoch, no-node-has-the-slot-taken}
 use Rattle.tree.proofs.RemoveParts.{remove-keeps-links, remove-keeps-naming, remove-keeps-dress, remove-keeps-texts, a-removal-keeps-every-epoch}
-use Rattle.tree.proofs.NotBroken.{not-broken}
-use Rattle.tree.proofs.ReadParts.{rect-answers-the-nodes-box, field-text-answers-the-nodes-text, field-cursor-answers-the-nodes-caret, metres-of-the-field-are-the-nodes}
 use Rattle.tree.proofs.FieldLaws.{a-field-is-vacant-or-every-field-is-a-live-nodes, a-node-with-a-text-has-a-field}
 use Rattle.tree.proofs.FieldParts.{a-field-stays, a-field-is-made}
 use Rattle.desk.specs.Events as desk
 use Rattle.desk.specs.Events.{handled, hitOf, appliedEvent, takeOldest}
-use Rattle.desk.specs.History.{History, Call, Change, Question, has, refusalOf, refusalOfField, refusalOfQuestion, accept, recorded, withTree, grown, keepText, fieldCount, rootId, afterEvent, textSaid, caretSaid, metresSaid, rectSaid}
+use Rattle.desk.specs.History.{History, Call, Change, has, refusalOf, refusalOfField, refusalOfChange, afterChange, accept, recorded, withTree, grown, keepText, fieldCount, rootId, afterEvent}
 use Rattle.desk.specs.History.Call.{insert, change, ask}
 use Rattle.desk.specs.History.Change.{remove, setStyle, setStateTable, setPatchPool, makeField, solve, handle, nextOutput}
-use Rattle.desk.specs.History.Question.{fieldText, fieldCursor, metres, rect, live, firstChild, nextSibling, absorb}
-use Rattle.desk.specs.Demand3.{Step, step, numberAsked, silent, telling, Machine, MachineChange}
+use Rattle.desk.specs.Demand3.{step, Machine, MachineChange}
 use Rattle.desk.specs.declared.UiEvent.{UiEvent}
 use Rattle.desk.specs.declared.UiEvent.the-variants.{PointerMoved, PointerPressed, PointerReleased, TextEntered, Edit}
 use Rattle.desk.specs.declared.Key.the-variants.{Char, Op}
 use Rattle.desk.proofs.Invariant.{NamedBy, OwnText, Inv, inv-after, restyled-under, restyled-each, restyled-some, restyled-by-a-pass, with-nodes, with-styling, with-texts, with-outputs}
+use Rattle.desk.proofs.AnswerLaws.{Kept, AsSaid, accepted-as-said, refused-as-said, guarded-as-said, live-as-said, only-if, only-unless, change-kept}
+use Rattle.desk.proofs.ReadSteps.{asks}
 use Rattle.desk.proofs.RefreshSteps.{refresh-agrees}
 use Rattle.desk.proofs.PointerSteps.{move-agrees, press-agrees, release-agrees, waiting-length}
 use Rattle.desk.proofs.KeySteps.{key-agrees}
 
--- a call kept the invariant, and was refused as the history says
-pub record Kept (k : ℕ) (u : Ui) (h : History) (c : Call) : Type 0 where
-  pub refused-so : step u c .number ≡ refusalOf h c
-  pub goes-on : Inv (suc k) (step u c .next) (recorded h c (step u c .told))
+-- ---- outputs and events
 
 module _ {k : ℕ} {u : Ui} {h : History} (v : Inv k u h) where
-  pub sound : broken u ≡ false
-  sound = not-broken (v .nodes .links) (v .styling .dress) (v .styling .pool) (v .nodes .texts) (v .queue)
-
-  guarded-is : {A : Type 0} (none : A) (o : Outcome A) → guarded u none o ≡ o
-  unfolding guarded
-  guarded-is none o = rw sound
-
-  on-live-is : {A : Type 0} (d : NodeId) (none : A) (o : Outcome A) → onLive u d none o ≡ pick (has h d) o (refuses u Missing none)
-  unfolding onLive
-  on-live-is d none o = guarded-is none _ ∙ ap (λ (b : Bool). pick b o (refuses u Missing none)) (live-just-where-a-node-has-it (v .nodes .links .rel) d)
-
-  -- refused: nothing changes
-  refused-step : (c : Call) (n : ℕ) (d : NodeId) → step u c ≡ record { next = u; number = suc n; told = d } → refusalOf h c ≡ suc n → Kept k u h c
-  unfolding recorded
-  refused-step c n d e j = record {
-    refused-so = ap (λ (s : Step). s .number) e ∙ sym j;
-    goes-on = rw (e, j, same-no (suc n) 0 (λ z. omega arith)) (inv-after v);
-  }
-
-  -- accepted: by the next tree and what the history makes of it
-  accepted-step : (c : Call) (u′ : Ui) (d : NodeId) → step u c ≡ record { next = u′; number = 0; told = d } → refusalOf h c ≡ 0 → Inv (suc k) u′ (accept h c d) → Kept k u h c
-  unfolding recorded
-  accepted-step c u′ d e j i = record {
-    refused-so = ap (λ (s : Step). s .number) e ∙ sym j;
-    goes-on = rw (e, j, same-yes 0 0 refl) i;
-  }
-
-  -- ---- reads
-
-  number-asked : (q : Question) → numberAsked u q ≡ refusalOfQuestion h q
-  unfolding textSaid caretSaid metresSaid rectSaid desk.metres tree.live tree.firstChild tree.nextSibling desk.absorb
-  number-asked (fieldText d) = ap (λ (a : Answer tree.Shown). a .number) (field-text-answers-the-nodes-text (v .nodes .links) sound (v .nodes .texts) d)
-  number-asked (fieldCursor d) = ap (λ (a : Answer ℕ). a .number) (field-cursor-answers-the-nodes-caret (v .nodes .links) sound (v .nodes .texts) d)
-  number-asked (metres d) = ap (λ (a : Answer ℕ). a .number) (metres-of-the-field-are-the-nodes (v .nodes .links) sound (v .nodes .texts) d)
-  number-asked (rect d) = ap (λ (a : Answer Rect). a .number) (rect-answers-the-nodes-box (v .nodes .links) sound (v .styling .dress .boxed) d)
-  number-asked (live d) = ap (λ (o : Outcome Bool). o .answer .number) (guarded-is false _)
-  number-asked (firstChild d) = ap (λ (o : Outcome MaybeId). o .answer .number) (guarded-is Absent _)
-  number-asked (nextSibling d) =
-      let o = gives u (tree.linked u (at (u .slots) (d .index) .«next_sibling»)) in
-      ap (λ (q : Outcome MaybeId). q .answer .number) (on-live-is d Absent o) ∙ bool-cases (has h d) (λ b. rw b) (λ b. rw b)
-  number-asked (absorb s) = ap (λ (o : Outcome ℕ). o .answer .number) (guarded-is 0 _)
-
-  pub asks : (q : Question) → Kept k u h (ask q)
-  unfolding step refusalOf accept recorded
-  asks q = record {
-    refused-so = number-asked q;
-    goes-on = bool-cases (same (refusalOfQuestion h q) 0) (λ b. rw b (inv-after v)) (λ b. rw b (inv-after v));
-  }
-
-  -- ---- the oldest output
-
-  output-taken : Kept k u h (change nextOutput)
-  unfolding step refusalOf accept desk.nextOutput recorded
-  output-taken = record {
-    refused-so = ap (λ (o : Outcome MaybeId). o .answer .number) (guarded-is Absent (takeOldest u (waitingOf u))) ∙ number-is (waitingOf u);
-    goes-on =
-        subst (λ (o : Outcome MaybeId). Inv (suc k) (o .next) (pick (same 0 0) h h)) (sym (guarded-is Absent (takeOldest u (waitingOf u))))
-        (rw (same-yes 0 0 refl) (inv-after (goes (waitingOf u) refl)));
-  }
+  output-taken : AsSaid k h (desk.nextOutput u) 0 (λ _. h)
+  unfolding desk.nextOutput
+  output-taken = guarded-as-said v Absent (taken (waitingOf u) refl)
     where
-      number-is : (ds : List NodeId) → takeOldest u ds .answer .number ≡ 0
-      number-is [] = refl
-      number-is (d ∷ ds) = refl
-
-      goes : (ds : List NodeId) → waitingOf u ≡ ds → Inv k (takeOldest u ds .next) h
-      goes [] e = v
-      goes (d ∷ ds) e =
+      taken : (ds : List NodeId) → waitingOf u ≡ ds → AsSaid k h (takeOldest u ds) 0 (λ _. h)
+      taken [] e = accepted-as-said v u Absent (λ _. h) (inv-after v)
+      taken (d ∷ ds) e =
           let n = waiting-length u (v .nodes .links .rel .small) (v .queue) in
           let f = v .queue .few in
           let l : length (d ∷ ds) ≡ u .«output_count» = ap length (sym e) ∙ n in
-          with-outputs v ds (omega arith)
-
-  -- ---- events
+          accepted-as-said v (withWaiting u ds) (Present d) (λ _. h) (inv-after (with-outputs v ds (omega arith)))
 
   event-agrees : (e : UiEvent) → Inv k (appliedEvent u (hitOf u) e) (afterEvent h e)
   event-agrees (PointerMoved x y) = move-agrees v x y
@@ -147,13 +76,12 @@ module _ {k : ℕ} {u : Ui} {h : History} (v : Inv k u h) where
   event-agrees (TextEntered ch) = key-agrees v (Char ch)
   event-agrees (Edit op) = key-agrees v (Op op)
 
-  event-handled : (e : UiEvent) → Kept k u h (change (handle e))
-  unfolding step refusalOf accept desk.handle handled
-  event-handled e = accepted-step (change (handle e)) (handled u e) nobody (ap silent (guarded-is 0 (gives (handled u e) 0))) refl (inv-after (refresh-agrees (event-agrees e)))
+  event-handled : (e : UiEvent) → AsSaid k h (desk.handle u e) 0 (λ _. afterChange h (handle e))
+  unfolding desk.handle handled
+  event-handled e = guarded-as-said v 0 (accepted-as-said v (handled u e) 0 _ (inv-after (refresh-agrees (event-agrees e))))
 
--- what is said of equal outcomes
-silenced : (o q : Outcome ℕ) → o ≡ q → silent o ≡ silent q
-silenced o q e = ap silent e
+differs : {G : Type 0} → false ≡ true → G
+differs e = let z : _≡_ {A = ℕ} 0 1 = cc in absurd (omega arith)
 
 -- what has a name keeps it
 still-named : (more : List NodeId) {named : List NodeId} {o : MaybeId} (m : Maybe ℕ) → NamedBy named o m → NamedBy (named ++ more) o m
@@ -194,22 +122,17 @@ module _ {k : ℕ} {u : Ui} {h : History} (v : Inv k u h) where
         focus = still-named (new ∷ []) (h .input .focus) (v .input .focus);
       })
 
-  pub inserts : (d : NodeId) → Kept k u h (insert d)
-  unfolding step refusalOf accept tree.insert
+  inserts : (d : NodeId) → AsSaid k h (tree.insert u d) (refusalOf h (insert d)) (grown h d)
+  unfolding refusalOf tree.insert
   inserts d =
-      let room = pick (same (u .free) NIL) (refuses u Full nobody) (gives (insertAt u (d .index)) (idAt (u .slots) (u .free))) in
-      let e = on-live-is v d nobody room in
-      bool-cases (has h d)
-      (λ b. free-cases (limitOf u) (u .slots) (u .free) (h .tree) (v .nodes .links .chain) (v .nodes .links .rel)
+      live-as-said v d nobody (λ b.
+      free-cases (limitOf u) (u .slots) (u .free) (h .tree) (v .nodes .links .chain) (v .nodes .links .rel)
       (λ f s _.
       let n : h .limit ≤ size (h .tree) = let q = v .nodes .limit-is in omega arith in
-      refused-step v (insert d) 3 nobody (ap telling (e ∙ rw (b, same-yes (u .free) NIL f))) (rw (b, le-ltb (size (h .tree)) (h .limit) n)))
+      rw (same-yes (u .free) NIL f, le-ltb (size (h .tree)) (h .limit) n) (refused-as-said v Full nobody (grown h d)))
       (λ _ _ _ f s.
       let n : size (h .tree) < h .limit = let q = v .nodes .limit-is in omega arith in
-      let m : size (h .tree) < limitOf u = let q = v .nodes .limit-is in omega arith in
-      accepted-step v (insert d) (insertAt u (d .index)) (idAt (u .slots) (u .free)) (ap telling (an-insertion-below-the-limit-is-accepted (v .nodes .links) (sound v) d b m))
-      (rw (b, lt-ltb (size (h .tree)) (h .limit) n)) (insert-inv d b f)))
-      (λ b. refused-step v (insert d) 2 nobody (ap telling (e ∙ rw b)) (rw b))
+      rw (same-no (u .free) NIL f, lt-ltb (size (h .tree)) (h .limit) n) (accepted-as-said v (insertAt u (d .index)) (idAt (u .slots) (u .free)) (grown h d) (insert-inv d b f))))
 
   -- ---- remove
 
@@ -236,17 +159,12 @@ module _ {k : ℕ} {u : Ui} {h : History} (v : Inv k u h) where
       rw (s, same-yes (d .generation) 1 g))
       (λ e s _. rw s)
 
-  pub removes : k < 2 ^ 63 → (d : NodeId) → Kept k u h (change (remove d))
-  unfolding step refusalOf accept tree.remove
+  removes : k < 2 ^ 63 → (d : NodeId) → AsSaid k h (tree.remove u d) (refusalOfChange h (remove d)) (λ _. afterChange h (remove d))
+  unfolding tree.remove
   removes small d =
-      let o : Outcome ℕ = pick (same (d .index) 0) (refuses u Root 0) (gives (removeAt u (d .index)) 0) in
-      let e = on-live-is v d 0 o in
-      bool-cases (has h d)
-      (λ b. let q = root-by-index d b in
-      eq-cases (d .index) 0
-      (λ z s _. refused-step v (change (remove d)) 4 nobody (silenced (onLive u d 0 o) (refuses u Root 0) (e ∙ rw (b, s))) (rw (b, q, s)))
-      (λ z s _. accepted-step v (change (remove d)) (removeAt u (d .index)) nobody (silenced (onLive u d 0 o) (gives (removeAt u (d .index)) 0) (e ∙ rw (b, s))) (rw (b, q, s)) (remove-inv small d b z)))
-      (λ b. refused-step v (change (remove d)) 2 nobody (silenced (onLive u d 0 o) (refuses u Missing 0) (e ∙ rw b)) (rw b))
+      live-as-said v d 0 (λ b.
+      only-unless v (same (d .index) 0) (not (sameId d rootId)) (ap not (root-by-index d b)) Root 0 (λ z.
+      accepted-as-said v (removeAt u (d .index)) 0 _ (remove-inv small d b (λ e. differs (sym z ∙ same-yes (d .index) 0 e)))))
 
   -- ---- styles, tables, the pool
 
@@ -256,21 +174,16 @@ module _ {k : ℕ} {u : Ui} {h : History} (v : Inv k u h) where
       with-styling v refl (restyled-some (hasBoth d) (restyled s) (λ x. (refl, refl)) (h .tree))
       (restyled-under refl (v .styling) (style-keeps-dress k u (h .tree) (v .nodes .links) (v .styling .dress) d hd s) refl)
 
-  pub styles : (d : NodeId) (s : Style) → Kept k u h (change (setStyle d s))
-  unfolding step refusalOf accept tree.setStyle
-  styles d s =
-      let o : Outcome ℕ = gives (styledAt u (d .index) s) 0 in
-      let e = on-live-is v d 0 o in
-      bool-cases (has h d)
-      (λ b. accepted-step v (change (setStyle d s)) (styledAt u (d .index) s) nobody (silenced (onLive u d 0 o) o (e ∙ rw b)) (rw b) (inv-after (style-inv d b s)))
-      (λ b. refused-step v (change (setStyle d s)) 2 nobody (silenced (onLive u d 0 o) (refuses u Missing 0) (e ∙ rw b)) (rw b))
+  styles : (d : NodeId) (s : Style) → AsSaid k h (tree.setStyle u d s) (refusalOfChange h (setStyle d s)) (λ _. afterChange h (setStyle d s))
+  unfolding tree.setStyle
+  styles d s = live-as-said v d 0 (λ b. accepted-as-said v (styledAt u (d .index) s) 0 _ (inv-after (style-inv d b s)))
 
   pool-length : length (h .board .pool) ≡ u .«patch_count»
   pool-length = ap length (sym (v .styling .pool-is)) ∙ length-take-le (u .«patch_count») (u .patches) (let a = v .styling .pool .few in let b = v .styling .pool .long in omega arith)
 
   table-inv : (d : NodeId) (hd : has h d ≡ true) (table : List ℕ) → all (inPool (u .«patch_count»)) table ≡ true
-      → Inv k (tabledAt u (d .index) table) (accept h (change (setStateTable d table)) nobody)
-  unfolding tabledAt withLooks wears accept
+      → Inv k (tabledAt u (d .index) table) (afterChange h (setStateTable d table))
+  unfolding tabledAt withLooks wears
   table-inv d hd table ok =
       with-styling v refl (restyled-some (hasBoth d) (λ x. wears (h .board .pool) (x .bits) (withTable table x)) (λ x. (refl, refl)) (h .tree))
       (restyled-under refl (v .styling)
@@ -279,20 +192,15 @@ module _ {k : ℕ} {u : Ui} {h : History} (v : Inv k u h) where
       (table-dirties k u (h .tree) (v .nodes .links) (v .styling .dress) d hd table
       ∙ ap₂ (λ (b : Bool) (q : List StatePatch). b || anyF (λ i g x. hasBoth d i g && swaps q (x .bits) (withTable table x)) (h .tree)) (v .styling .dirty-is) (v .styling .pool-is)))
 
-  pub tables : (d : NodeId) (table : List ℕ) → Kept k u h (change (setStateTable d table))
-  unfolding step refusalOf tree.setStateTable
+  tables : (d : NodeId) (table : List ℕ) → AsSaid k h (tree.setStateTable u d table) (refusalOfChange h (setStateTable d table)) (λ _. afterChange h (setStateTable d table))
+  unfolding tree.setStateTable
   tables d table =
-      let o : Outcome ℕ = pick (all (inPool (u .«patch_count»)) table) (gives (tabledAt u (d .index) table) 0) (refuses u Foreign 0) in
-      let e = on-live-is v d 0 o in
-      let n = pool-length in
-      bool-cases (has h d)
-      (λ b. bool-cases (all (inPool (u .«patch_count»)) table)
-      (λ c. accepted-step v (change (setStateTable d table)) (tabledAt u (d .index) table) nobody (silenced (onLive u d 0 o) (gives (tabledAt u (d .index) table) 0) (e ∙ rw (b, c))) (rw (b, n, c)) (inv-after (table-inv d b table c)))
-      (λ c. refused-step v (change (setStateTable d table)) 5 nobody (silenced (onLive u d 0 o) (refuses u Foreign 0) (e ∙ rw (b, c))) (rw (b, n, c))))
-      (λ b. refused-step v (change (setStateTable d table)) 2 nobody (silenced (onLive u d 0 o) (refuses u Missing 0) (e ∙ rw b)) (rw b))
+      live-as-said v d 0 (λ b.
+      only-if v (all (inPool (u .«patch_count»)) table) (all (inPool (length (h .board .pool))) table) (ap (λ (n : ℕ). all (inPool n) table) pool-length) Foreign 0 (λ c.
+      accepted-as-said v (tabledAt u (d .index) table) 0 _ (inv-after (table-inv d b table c))))
 
-  pool-inv : (patches : List StatePatch) (count : ℕ) → length patches ≡ 64 → count ≤ 64 → Inv k (pooled u patches count) (accept h (change (setPatchPool patches count)) nobody)
-  unfolding pooled withPool withLooks bare accept
+  pool-inv : (patches : List StatePatch) (count : ℕ) → length patches ≡ 64 → count ≤ 64 → Inv k (pooled u patches count) (afterChange h (setPatchPool patches count))
+  unfolding pooled withPool withLooks bare
   pool-inv patches count long few =
       with-styling v refl (restyled-each (λ i g x. bare x) (λ i g x. (refl, refl)) (h .tree))
       (record {
@@ -305,14 +213,12 @@ module _ {k : ℕ} {u : Ui} {h : History} (v : Inv k u h) where
             ∙ ap (λ (b : Bool). b || anyF (λ i g x. not (same (x .applied) noPatch)) (h .tree)) (v .styling .dirty-is);
       })
 
-  pub pools : (patches : List StatePatch) (count : ℕ) → length patches ≡ 64 → Kept k u h (change (setPatchPool patches count))
-  unfolding step refusalOf tree.setPatchPool
+  pools : (patches : List StatePatch) (count : ℕ) → length patches ≡ 64
+      → AsSaid k h (tree.setPatchPool u patches count) (refusalOfChange h (setPatchPool patches count)) (λ _. afterChange h (setPatchPool patches count))
+  unfolding tree.setPatchPool
   pools patches count long =
-      let o : Outcome ℕ = pick (ltb 64 count) (refuses u Long 0) (gives (pooled u patches count) 0) in
-      let e = guarded-is v 0 o in
-      bool-cases (ltb 64 count)
-      (λ b. refused-step v (change (setPatchPool patches count)) 6 nobody (silenced (guarded u 0 o) (refuses u Long 0) (e ∙ rw b)) (rw b))
-      (λ b. accepted-step v (change (setPatchPool patches count)) (pooled u patches count) nobody (silenced (guarded u 0 o) (gives (pooled u patches count) 0) (e ∙ rw b)) (rw b) (inv-after (pool-inv patches count long (ltb-false 64 count b))))
+      guarded-as-said v 0 (only-unless v (ltb 64 count) (not (ltb 64 count)) refl Long 0 (λ b.
+      accepted-as-said v (pooled u patches count) 0 _ (inv-after (pool-inv patches count long (ltb-false 64 count b)))))
 
   -- ---- a field
 
@@ -321,48 +227,38 @@ module _ {k : ℕ} {u : Ui} {h : History} (v : Inv k u h) where
   count-is-a-sum (node i g x cs sib) = let a = count-is-a-sum cs in let b = count-is-a-sum sib in omega arith
 
   field-inv : (d : NodeId) (hd : has h d ≡ true) (f : Field) → fieldOf d (u .fields) ≡ nothing → firstField vacant (reclaimed (limitOf u) (u .slots) (u .fields)) ≡ just f
-      → Inv k (withFields u (claimed d (reclaimed (limitOf u) (u .slots) (u .fields)))) (accept h (change (makeField d)) nobody)
-  unfolding accept
+      → Inv k (withFields u (claimed d (reclaimed (limitOf u) (u .slots) (u .fields)))) (afterChange h (makeField d))
   field-inv d hd f none some =
       with-texts v (λ i g x. hasBoth d i g) (λ x. keepText (x .text)) _
       (a-field-is-made k u (h .tree) (v .nodes .links) (v .nodes .texts) d hd keepText refl (λ z. refl) f none some)
 
-  refusal-of-field : (d : NodeId) (m : Maybe Info) → find d (h .tree) ≡ m → refusalOf h (change (makeField d)) ≡ refusalOfField h m
-  unfolding refusalOf
-  refusal-of-field d m q = ap (refusalOfField h) q
-
   -- the node has a field, takes a vacant one, or there is none
-  on-a-node : (d : NodeId) (hd : has h d ≡ true) (w : Known (OwnText (u .fields)) d (h .tree)) (m : Maybe Field) → fieldOf d (u .fields) ≡ m → tree.makeField u d ≡ takeField u d m → Kept k u h (change (makeField d))
-  unfolding step accept
-  on-a-node d hd w (just f) q e =
-      let x = w .load in
-      let hf : hasField x ≡ true = a-node-with-a-text-has-a-field x (just f) (w .holds ∙ ap textIn q) in
-      accepted-step v (change (makeField d)) u nobody (silenced (tree.makeField u d) (gives u 0) e) (refusal-of-field d (just x) (w .found) ∙ rw hf)
-      (subst (λ (t : Forest Info). Inv (suc k) u (withTree h t (h .board .dirty))) (sym (a-field-stays k u (h .tree) (v .nodes .links) (v .nodes .texts) d hd keepText refl (λ z. refl) f q)) (inv-after v))
-  on-a-node d hd w nothing q e =
-      let x = w .load in
-      let hf : hasField x ≡ false = a-node-with-a-text-has-a-field x nothing (w .holds ∙ ap textIn q) in
+  on-a-node : (d : NodeId) (hd : has h d ≡ true) (w : Known (OwnText (u .fields)) d (h .tree)) (m : Maybe Field) → fieldOf d (u .fields) ≡ m
+      → AsSaid k h (takeField u d m) (refusalOfField h (just (w .load))) (λ _. afterChange h (makeField d))
+  on-a-node d hd w (just f) q =
+      let hf : hasField (w .load) ≡ true = a-node-with-a-text-has-a-field (w .load) (just f) (w .holds ∙ ap textIn q) in
+      rw hf (accepted-as-said v u 0 _
+      (subst (λ (t : Forest Info). Inv (suc k) u (withTree h t (h .board .dirty))) (sym (a-field-stays k u (h .tree) (v .nodes .links) (v .nodes .texts) d hd keepText refl (λ z. refl) f q)) (inv-after v)))
+  on-a-node d hd w nothing q =
+      let hf : hasField (w .load) ≡ false = a-node-with-a-text-has-a-field (w .load) nothing (w .holds ∙ ap textIn q) in
       let c = count-is-a-sum (h .tree) in
       let n = v .nodes .texts .eight in
       a-field-is-vacant-or-every-field-is-a-live-nodes (v .nodes .links .rel) (u .fields) (v .nodes .texts .owners) (v .nodes .texts .texts)
       (λ z s.
       let l : 8 ≤ fieldCount (h .tree) = omega arith in
-      refused-step v (change (makeField d)) 3 nobody (silenced (tree.makeField u d) (refuses u Full 0) (e ∙ ap (takeVacant u d) z))
-      (refusal-of-field d (just x) (w .found) ∙ rw (hf, le-ltb (fieldCount (h .tree)) 8 l)))
+      rw (hf, le-ltb (fieldCount (h .tree)) 8 l, z) (refused-as-said v Full 0 _))
       (λ f z s.
       let l : fieldCount (h .tree) < 8 = omega arith in
-      accepted-step v (change (makeField d)) (withFields u (claimed d (reclaimed (limitOf u) (u .slots) (u .fields)))) nobody
-      (silenced (tree.makeField u d) (gives (withFields u (claimed d (reclaimed (limitOf u) (u .slots) (u .fields)))) 0) (e ∙ ap (takeVacant u d) z))
-      (refusal-of-field d (just x) (w .found) ∙ rw (hf, lt-ltb (fieldCount (h .tree)) 8 l)) (inv-after (field-inv d hd f q z)))
+      rw (hf, lt-ltb (fieldCount (h .tree)) 8 l, z) (accepted-as-said v (withFields u (claimed d (reclaimed (limitOf u) (u .slots) (u .fields)))) 0 _ (inv-after (field-inv d hd f q z))))
 
-  pub fields : (d : NodeId) → Kept k u h (change (makeField d))
-  unfolding step tree.makeField
+  fields : (d : NodeId) → AsSaid k h (tree.makeField u d) (refusalOfChange h (makeField d)) (λ _. afterChange h (makeField d))
+  unfolding tree.makeField
   fields d =
-      let o : Outcome ℕ = takeField u d (fieldOf d (u .fields)) in
-      let e = on-live-is v d 0 o in
-      bool-cases (has h d)
-      (λ b. on-a-node d b (find-known (OwnText (u .fields)) d (h .tree) (v .nodes .texts .texts) b) (fieldOf d (u .fields)) refl (e ∙ rw b))
-      (λ b. refused-step v (change (makeField d)) 2 nobody (silenced (onLive u d 0 o) (refuses u Missing 0) (e ∙ rw b)) (refusal-of-field d nothing (find-nothing d (h .tree) b)))
+      subst (λ (n : ℕ). AsSaid k h (onLive u d 0 (takeField u d (fieldOf d (u .fields)))) n (λ _. afterChange h (makeField d)))
+      (bool-cases (has h d) (λ b. rw b) (λ b. rw (b, find-nothing d (h .tree) b)))
+      (live-as-said v d 0 (λ b.
+      let w = find-known (OwnText (u .fields)) d (h .tree) (v .nodes .texts .texts) b in
+      subst (λ (m : Maybe Info). AsSaid k h (takeField u d (fieldOf d (u .fields))) (refusalOfField h m) (λ _. afterChange h (makeField d))) (sym (w .found)) (on-a-node d b w (fieldOf d (u .fields)) refl)))
 
   -- ---- a pass
 
@@ -379,31 +275,30 @@ module _ {k : ℕ} {u : Ui} {h : History} (v : Inv k u h) where
         dirty-is = refl;
       })
 
-  pub passes : (w : Viewport) → Kept k u h (change (solve w))
-  unfolding step refusalOf accept tree.solve
+  passes : (w : Viewport) → AsSaid k h (tree.solve u w) 0 (λ _. afterChange h (solve w))
+  unfolding tree.solve
   passes w =
-      let done : Outcome ℕ = gives (withPass u (passed (u .slots) (u .layout) w) w) 0 in
-      let o : Outcome ℕ = pick (not (u .dirty) && sameView (u .«solved_for») w) (gives u 0) done in
-      let e = guarded-is v 0 o in
       let q : (not (u .dirty) && sameView (u .«solved_for») w) ≡ (not (h .board .dirty) && sameView (h .board .viewport) w) =
       ap₂ (λ (b : Bool) (z : Viewport). not b && sameView z w) (v .styling .dirty-is) (v .styling .view-is) in
-      bool-cases (not (h .board .dirty) && sameView (h .board .viewport) w)
-      (λ b. accepted-step v (change (solve w)) u nobody (silenced (guarded u 0 o) (gives u 0) (e ∙ rw (q ∙ b))) refl (rw b (inv-after v)))
-      (λ b. accepted-step v (change (solve w)) (withPass u (passed (u .slots) (u .layout) w) w) nobody (silenced (guarded u 0 o) done (a-pass-that-is-due-is-made (v .nodes .links) (sound v) w (q ∙ b))) refl (rw b (inv-after (pass-inv w))))
+      guarded-as-said v 0
+      (bool-cases (not (h .board .dirty) && sameView (h .board .viewport) w)
+      (λ b. rw (q, b) (accepted-as-said v u 0 (λ _. h) (inv-after v)))
+      (λ b. rw (q, b) (accepted-as-said v (withPass u (passed (u .slots) (u .layout) w) w) 0 _ (inv-after (pass-inv w)))))
 
   -- ---- every call
 
   every-change : k < 2 ^ 63 → (c : Change) → MachineChange c → Kept k u h (change c)
-  every-change small (remove d) m = removes small d
-  every-change small (setStyle d s) m = styles d s
-  every-change small (setStateTable d table) m = tables d table
-  every-change small (setPatchPool patches count) m = pools patches count m
-  every-change small (makeField d) m = fields d
-  every-change small (solve w) m = passes w
-  every-change small (handle e) m = event-handled v e
-  every-change small nextOutput m = output-taken v
+  every-change small (remove d) m = change-kept v (remove d) (removes small d) refl
+  every-change small (setStyle d s) m = change-kept v (setStyle d s) (styles d s) refl
+  every-change small (setStateTable d table) m = change-kept v (setStateTable d table) (tables d table) refl
+  every-change small (setPatchPool patches count) m = change-kept v (setPatchPool patches count) (pools patches count m) refl
+  every-change small (makeField d) m = change-kept v (makeField d) (fields d) refl
+  every-change small (solve w) m = change-kept v (solve w) (passes w) refl
+  every-change small (handle e) m = change-kept v (handle e) (event-handled v e) refl
+  every-change small nextOutput m = change-kept v nextOutput (output-taken v) refl
 
   pub every-call : k < 2 ^ 63 → (c : Call) → Machine c → Kept k u h c
-  every-call small (insert d) m = inserts d
+  unfolding step accept recorded
+  every-call small (insert d) m = let x = inserts d in record { refused-so = x .number-is; goes-on = x .goes-on }
   every-call small (change c) m = every-change small c m
   every-call small (ask q) m = asks v q

@@ -45,7 +45,8 @@ use Rattle.desk.specs.declared.UiEvent.the-variants.{PointerMoved, Point
 use Rattle.desk.specs.declared.Key.{Key}
 use Rattle.desk.specs.declared.Key.the-variants.{Char, Op}
 use Rattle.desk.proofs.Invariant.{OwnName, OwnText, Inv, Restyled, restyled-each, restyled-some, restyled-by-a-pass}
-use Rattle.desk.proofs.CallSteps.{Kept, every-call}
+use Rattle.desk.proofs.AnswerLaws.{Kept}
+use Rattle.desk.proofs.CallSteps.{every-call}
 use Rattle.desk.proofs.Demand3.{starts, demand-3}
 
 -- ---- ids

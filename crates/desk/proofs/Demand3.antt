@@ -15,17 +15,17 @@ use Rattle.tree.specs.declared.Ui.{Ui}
 use Rattle.tree.proofs.TestLaws.{bool-cases, eq-cases}
 use Rattle.tree.proofs.Starts.{start-root-generation}
 use Rattle.tree.proofs.StartParts.{start-has-links, start-has-names, start-has-dress, start-has-a-pool, start-has-texts, start-has-a-queue}
-use Rattle.tree.proofs.ReadParts.{live-answers-whether-a-node-has-it, children-by-the-links-are-the-nodes, field-text-answers-the-nodes-text, field-cursor-answers-the-nodes-caret, metres-of-the-field-are-the-nodes, rect-answers-the-nodes-box}
-use Rattle.desk.specs.Events as desk
-use Rattle.desk.specs.History.{History, Call, Change, limitFrom, start, refusalOf, afterChange, accept, recorded, grown, refresh, afterEvent, textSaid, caretSaid, metresSaid, rectSaid}
+use Rattle.desk.specs.History.{History, Call, Change, limitFrom, start, refusalOf, afterChange, accept, recorded, grown, refresh, afterEvent}
 use Rattle.desk.specs.History.Call.{insert, change, ask}
 use Rattle.desk.specs.History.Change.{remove, setStyle, setStateTable, setPatchPool, makeField, solve, handle, nextOutput}
-use Rattle.desk.specs.Demand3.{step, run, numbers, feed, idGiven, given, Machines, follow, refusals, Agree, Others, Distinct, HoldsFrom, Demand3}
+use Rattle.desk.specs.Demand3.{step, run, numbers, feed, idGiven, given, Machines, follow, refusals, Others, Distinct, HoldsFrom, Demand3}
 use Rattle.desk.specs.declared.UiEvent.{UiEvent}
 use Rattle.desk.specs.declared.UiEvent.the-variants.{PointerMoved, PointerPressed, PointerReleased, TextEntered, Edit}
 use Rattle.desk.proofs.Invariant.{Inv}
 use Rattle.desk.proofs.NameLaws.{id-cases}
-use Rattle.desk.proofs.CallSteps.{Kept, sound, every-call}
+use Rattle.desk.proofs.AnswerLaws.{Kept}
+use Rattle.desk.proofs.ReadSteps.{agrees}
+use Rattle.desk.proofs.CallSteps.{every-call}
 
 -- ---- the start
 
@@ -65,22 +65,6 @@ starts-fresh limit =
 
 pub starts : (limit : ℕ) → Inv 0 (tree.newTree limit .next) (start limit)
 starts limit = subst (λ (u : Ui). Inv 0 u (start limit)) (sym (new-is-fresh limit)) (starts-fresh limit)
-
--- ---- what the invariant gives
-
-pub agrees : (k : ℕ) (u : Ui) (h : History) → Inv k u h → Agree u h
-unfolding textSaid caretSaid metresSaid rectSaid desk.metres
-agrees k u h v =
-    let b = sound v in
-    record {
-      live-is = live-answers-whether-a-node-has-it (v .nodes .links) b;
-      children-are = children-by-the-links-are-the-nodes (v .nodes .links) b;
-      text-is = field-text-answers-the-nodes-text (v .nodes .links) b (v .nodes .texts);
-      caret-is = field-cursor-answers-the-nodes-caret (v .nodes .links) b (v .nodes .texts);
-      metres-are = metres-of-the-field-are-the-nodes (v .nodes .links) b (v .nodes .texts);
-      rect-is = rect-answers-the-nodes-box (v .nodes .links) b (v .styling .dress .boxed);
-      focus-is = v .input .focus .is-id;
-    }
 
 -- ---- the names that were made are the ids that were given
 
@@ -165,7 +149,7 @@ holds-from k u h v cs small m =
     record {
       refused-alike = r .alike;
       ids-differ = apart-is-distinct (h .named ++ given u cs) (subst (λ (ds : List NodeId). (i j : ℕ) → i < length ds → j < length ds → getD ds i nobody ≡ getD ds j nobody → i ≡ j) (r .names) (r .ends .nodes .naming .apart));
-      agree = agrees (k + length cs) (run u cs) (follow h cs (feed u cs)) (r .ends);
+      agree = agrees (r .ends);
     }
 
 pub demand-3 : Demand3

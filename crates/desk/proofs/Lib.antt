@@ -8,6 +8,8 @@ pub mod KeySteps
 pub mod FoldSteps
 pub mod OutputSteps
 pub mod ComputedRuns
+pub mod AnswerLaws
+pub mod ReadSteps
 pub mod CallSteps
 pub mod Demand3
 pub mod Corollaries
