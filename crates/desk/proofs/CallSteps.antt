@@ -40,14 +40,14 @@ use Rattle.tree.proofs.FieldLaws.{a-field-is-vacant-or-every-field-is-a-live-no
 use Rattle.tree.proofs.FieldParts.{a-field-stays, a-field-is-made}
 use Rattle.desk.specs.Events as desk
 use Rattle.desk.specs.Events.{handled, hitOf, appliedEvent, takeOldest}
-use Rattle.desk.specs.History.{History, Call, Change, has, refusalOf, refusalOfField, refusalOfChange, afterChange, accept, recorded, withTree, grown, keepText, fieldCount, rootId, afterEvent}
+use Rattle.desk.specs.History.{History, Call, Change, has, refusalOf, refusalOfField, refusalOfChange, afterChange, accept, recorded, withStyling, withTree, grown, keepText, fieldCount, rootId, afterEvent}
 use Rattle.desk.specs.History.Call.{insert, change, ask}
 use Rattle.desk.specs.History.Change.{remove, setStyle, setStateTable, setPatchPool, makeField, solve, handle, nextOutput}
 use Rattle.desk.specs.Demand3.{step, Machine, MachineChange}
 use Rattle.desk.specs.declared.UiEvent.{UiEvent}
 use Rattle.desk.specs.declared.UiEvent.the-variants.{PointerMoved, PointerPressed, PointerReleased, TextEntered, Edit}
 use Rattle.desk.specs.declared.Key.the-variants.{Char, Op}
-use Rattle.desk.proofs.Invariant.{NamedBy, OwnText, Inv, inv-after, restyled-under, restyled-each, restyled-some, restyled-by-a-pass, with-nodes, with-styling, with-texts, with-outputs}
+use Rattle.desk.proofs.Invariant.{NamedBy, OwnText, Inv, inv-after, styling-under, same-nodes-each, same-nodes-some, same-nodes-placed, with-nodes, with-styling, with-texts, with-outputs}
 use Rattle.desk.proofs.AnswerLaws.{Kept, AsSaid, accepted-as-said, refused-as-said, guarded-as-said, live-as-said, only-if, only-unless, change-kept}
 use Rattle.desk.proofs.ReadSteps.{asks}
 use Rattle.desk.proofs.RefreshSteps.{refresh-agrees}
@@ -57,9 +57,9 @@ use Rattle.desk.proofs.KeySteps.{key-agrees}
 -- ---- outputs and events
 
 module _ {k : ℕ} {u : Ui} {h : History} (v : Inv k u h) where
-  output-taken : AsSaid k h (desk.nextOutput u) 0 (λ _. h)
+  output-as-said : AsSaid k h (desk.nextOutput u) 0 (λ _. h)
   unfolding desk.nextOutput
-  output-taken = guarded-as-said v Absent (taken (waitingOf u) refl)
+  output-as-said = guarded-as-said v Absent (taken (waitingOf u) refl)
     where
       taken : (ds : List NodeId) → waitingOf u ≡ ds → AsSaid k h (takeOldest u ds) 0 (λ _. h)
       taken [] e = accepted-as-said v u Absent (λ _. h) (inv-after v)
@@ -76,9 +76,9 @@ module _ {k : ℕ} {u : Ui} {h : History} (v : Inv k u h) where
   event-agrees (TextEntered ch) = key-agrees v (Char ch)
   event-agrees (Edit op) = key-agrees v (Op op)
 
-  event-handled : (e : UiEvent) → AsSaid k h (desk.handle u e) 0 (λ _. afterChange h (handle e))
+  event-as-said : (e : UiEvent) → AsSaid k h (desk.handle u e) 0 (λ _. afterChange h (handle e))
   unfolding desk.handle handled
-  event-handled e = guarded-as-said v 0 (accepted-as-said v (handled u e) 0 _ (inv-after (refresh-agrees (event-agrees e))))
+  event-as-said e = guarded-as-said v 0 (accepted-as-said v (handled u e) 0 _ (inv-after (refresh-agrees (event-agrees e))))
 
 differs : {G : Type 0} → false ≡ true → G
 differs e = let z : _≡_ {A = ℕ} 0 1 = cc in absurd (omega arith)
@@ -100,9 +100,9 @@ module _ {k : ℕ} {u : Ui} {h : History} (v : Inv k u h) where
   root-stays u′ t′ l x e z =
       let a = root-is-live (l .rel) in let b = root-is-live (v .nodes .links .rel) in let c = v .nodes .root-is in omega arith
 
-  insert-inv : (d : NodeId) (hd : has h d ≡ true) (f : u .free ≢ NIL) → Inv (suc k) (insertAt u (d .index)) (grown h d (idAt (u .slots) (u .free)))
+  insert-agrees : (d : NodeId) (hd : has h d ≡ true) (f : u .free ≢ NIL) → Inv (suc k) (insertAt u (d .index)) (grown h d (idAt (u .slots) (u .free)))
   unfolding insertAt withNodes grown
-  insert-inv d hd f =
+  insert-agrees d hd f =
       let m = length (h .named) in
       let new = idAt (u .slots) (u .free) in
       let L = insert-keeps-links (v .nodes .links) d hd f m in
@@ -122,9 +122,9 @@ module _ {k : ℕ} {u : Ui} {h : History} (v : Inv k u h) where
         focus = still-named (new ∷ []) (h .input .focus) (v .input .focus);
       })
 
-  inserts : (d : NodeId) → AsSaid k h (tree.insert u d) (refusalOf h (insert d)) (grown h d)
+  insert-as-said : (d : NodeId) → AsSaid k h (tree.insert u d) (refusalOf h (insert d)) (grown h d)
   unfolding refusalOf tree.insert
-  inserts d =
+  insert-as-said d =
       live-as-said v d nobody (λ b.
       free-cases (limitOf u) (u .slots) (u .free) (h .tree) (v .nodes .links .chain) (v .nodes .links .rel)
       (λ f s _.
@@ -132,13 +132,13 @@ module _ {k : ℕ} {u : Ui} {h : History} (v : Inv k u h) where
       rw (same-yes (u .free) NIL f, le-ltb (size (h .tree)) (h .limit) n) (refused-as-said v Full nobody (grown h d)))
       (λ _ _ _ f s.
       let n : size (h .tree) < h .limit = let q = v .nodes .limit-is in omega arith in
-      rw (same-no (u .free) NIL f, lt-ltb (size (h .tree)) (h .limit) n) (accepted-as-said v (insertAt u (d .index)) (idAt (u .slots) (u .free)) (grown h d) (insert-inv d b f))))
+      rw (same-no (u .free) NIL f, lt-ltb (size (h .tree)) (h .limit) n) (accepted-as-said v (insertAt u (d .index)) (idAt (u .slots) (u .free)) (grown h d) (insert-agrees d b f))))
 
   -- ---- remove
 
-  remove-inv : k < 2 ^ 63 → (d : NodeId) (hd : has h d ≡ true) (nz : d .index ≢ 0) → Inv (suc k) (removeAt u (d .index)) (withTree h (cutOf d (h .tree)) true)
+  remove-agrees : k < 2 ^ 63 → (d : NodeId) (hd : has h d ≡ true) (nz : d .index ≢ 0) → Inv (suc k) (removeAt u (d .index)) (withTree h (cutOf d (h .tree)) true)
   unfolding removeAt withNodes
-  remove-inv small d hd nz =
+  remove-agrees small d hd nz =
       let L = remove-keeps-links (v .nodes .links) small d hd nz in
       with-nodes v refl refl
       (record {
@@ -159,50 +159,50 @@ module _ {k : ℕ} {u : Ui} {h : History} (v : Inv k u h) where
       rw (s, same-yes (d .generation) 1 g))
       (λ e s _. rw s)
 
-  removes : k < 2 ^ 63 → (d : NodeId) → AsSaid k h (tree.remove u d) (refusalOfChange h (remove d)) (λ _. afterChange h (remove d))
+  remove-as-said : k < 2 ^ 63 → (d : NodeId) → AsSaid k h (tree.remove u d) (refusalOfChange h (remove d)) (λ _. afterChange h (remove d))
   unfolding tree.remove
-  removes small d =
+  remove-as-said small d =
       live-as-said v d 0 (λ b.
       only-unless v (same (d .index) 0) (not (sameId d rootId)) (ap not (root-by-index d b)) Root 0 (λ z.
-      accepted-as-said v (removeAt u (d .index)) 0 _ (remove-inv small d b (λ e. differs (sym z ∙ same-yes (d .index) 0 e)))))
+      accepted-as-said v (removeAt u (d .index)) 0 _ (remove-agrees small d b (λ e. differs (sym z ∙ same-yes (d .index) 0 e)))))
 
   -- ---- styles, tables, the pool
 
-  style-inv : (d : NodeId) (hd : has h d ≡ true) (s : Style) → Inv k (styledAt u (d .index) s) (withTree h (changeOf d (restyled s) (h .tree)) true)
+  style-agrees : (d : NodeId) (hd : has h d ≡ true) (s : Style) → Inv k (styledAt u (d .index) s) (withTree h (changeOf d (restyled s) (h .tree)) true)
   unfolding styledAt withLooks restyled
-  style-inv d hd s =
-      with-styling v refl (restyled-some (hasBoth d) (restyled s) (λ x. (refl, refl)) (h .tree))
-      (restyled-under refl (v .styling) (style-keeps-dress k u (h .tree) (v .nodes .links) (v .styling .dress) d hd s) refl)
+  style-agrees d hd s =
+      with-styling v refl (same-nodes-some (hasBoth d) (restyled s) (λ x. (refl, refl)) (h .tree))
+      (styling-under refl (v .styling) (style-keeps-dress k u (h .tree) (v .nodes .links) (v .styling .dress) d hd s) refl)
 
-  styles : (d : NodeId) (s : Style) → AsSaid k h (tree.setStyle u d s) (refusalOfChange h (setStyle d s)) (λ _. afterChange h (setStyle d s))
+  style-as-said : (d : NodeId) (s : Style) → AsSaid k h (tree.setStyle u d s) (refusalOfChange h (setStyle d s)) (λ _. afterChange h (setStyle d s))
   unfolding tree.setStyle
-  styles d s = live-as-said v d 0 (λ b. accepted-as-said v (styledAt u (d .index) s) 0 _ (inv-after (style-inv d b s)))
+  style-as-said d s = live-as-said v d 0 (λ b. accepted-as-said v (styledAt u (d .index) s) 0 _ (inv-after (style-agrees d b s)))
 
-  pool-length : length (h .board .pool) ≡ u .«patch_count»
+  pool-length : length (h .styling .pool) ≡ u .«patch_count»
   pool-length = ap length (sym (v .styling .pool-is)) ∙ length-take-le (u .«patch_count») (u .patches) (let a = v .styling .pool .few in let b = v .styling .pool .long in omega arith)
 
-  table-inv : (d : NodeId) (hd : has h d ≡ true) (table : List ℕ) → all (inPool (u .«patch_count»)) table ≡ true
+  table-agrees : (d : NodeId) (hd : has h d ≡ true) (table : List ℕ) → all (inPool (u .«patch_count»)) table ≡ true
       → Inv k (tabledAt u (d .index) table) (afterChange h (setStateTable d table))
   unfolding tabledAt withLooks wears
-  table-inv d hd table ok =
-      with-styling v refl (restyled-some (hasBoth d) (λ x. wears (h .board .pool) (x .bits) (withTable table x)) (λ x. (refl, refl)) (h .tree))
-      (restyled-under refl (v .styling)
+  table-agrees d hd table ok =
+      with-styling v refl (same-nodes-some (hasBoth d) (λ x. wears (h .styling .pool) (x .bits) (withTable table x)) (λ x. (refl, refl)) (h .tree))
+      (styling-under refl (v .styling)
       (subst (λ (q : List StatePatch). Dress (tabledAt u (d .index) table) (changeOf d (λ x. wears q (x .bits) (withTable table x)) (h .tree))) (v .styling .pool-is)
       (table-keeps-dress k u (h .tree) (v .nodes .links) (v .styling .dress) d hd table ok))
       (table-dirties k u (h .tree) (v .nodes .links) (v .styling .dress) d hd table
       ∙ ap₂ (λ (b : Bool) (q : List StatePatch). b || anyF (λ i g x. hasBoth d i g && swaps q (x .bits) (withTable table x)) (h .tree)) (v .styling .dirty-is) (v .styling .pool-is)))
 
-  tables : (d : NodeId) (table : List ℕ) → AsSaid k h (tree.setStateTable u d table) (refusalOfChange h (setStateTable d table)) (λ _. afterChange h (setStateTable d table))
+  table-as-said : (d : NodeId) (table : List ℕ) → AsSaid k h (tree.setStateTable u d table) (refusalOfChange h (setStateTable d table)) (λ _. afterChange h (setStateTable d table))
   unfolding tree.setStateTable
-  tables d table =
+  table-as-said d table =
       live-as-said v d 0 (λ b.
-      only-if v (all (inPool (u .«patch_count»)) table) (all (inPool (length (h .board .pool))) table) (ap (λ (n : ℕ). all (inPool n) table) pool-length) Foreign 0 (λ c.
-      accepted-as-said v (tabledAt u (d .index) table) 0 _ (inv-after (table-inv d b table c))))
+      only-if v (all (inPool (u .«patch_count»)) table) (all (inPool (length (h .styling .pool))) table) (ap (λ (n : ℕ). all (inPool n) table) pool-length) Foreign 0 (λ c.
+      accepted-as-said v (tabledAt u (d .index) table) 0 _ (inv-after (table-agrees d b table c))))
 
-  pool-inv : (patches : List StatePatch) (count : ℕ) → length patches ≡ 64 → count ≤ 64 → Inv k (pooled u patches count) (afterChange h (setPatchPool patches count))
+  pool-agrees : (patches : List StatePatch) (count : ℕ) → length patches ≡ 64 → count ≤ 64 → Inv k (pooled u patches count) (afterChange h (setPatchPool patches count))
   unfolding pooled withPool withLooks bare
-  pool-inv patches count long few =
-      with-styling v refl (restyled-each (λ i g x. bare x) (λ i g x. (refl, refl)) (h .tree))
+  pool-agrees patches count long few =
+      with-styling v refl (same-nodes-each (λ i g x. bare x) (λ i g x. (refl, refl)) (h .tree))
       (record {
         dress = pool-keeps-dress k u (h .tree) (v .nodes .links) (v .styling .dress) patches count;
         pool = record { long = long; few = few };
@@ -213,12 +213,12 @@ module _ {k : ℕ} {u : Ui} {h : History} (v : Inv k u h) where
             ∙ ap (λ (b : Bool). b || anyF (λ i g x. not (same (x .applied) noPatch)) (h .tree)) (v .styling .dirty-is);
       })
 
-  pools : (patches : List StatePatch) (count : ℕ) → length patches ≡ 64
+  pool-as-said : (patches : List StatePatch) (count : ℕ) → length patches ≡ 64
       → AsSaid k h (tree.setPatchPool u patches count) (refusalOfChange h (setPatchPool patches count)) (λ _. afterChange h (setPatchPool patches count))
   unfolding tree.setPatchPool
-  pools patches count long =
+  pool-as-said patches count long =
       guarded-as-said v 0 (only-unless v (ltb 64 count) (not (ltb 64 count)) refl Long 0 (λ b.
-      accepted-as-said v (pooled u patches count) 0 _ (inv-after (pool-inv patches count long (ltb-false 64 count b)))))
+      accepted-as-said v (pooled u patches count) 0 _ (inv-after (pool-agrees patches count long (ltb-false 64 count b)))))
 
   -- ---- a field
 
@@ -226,9 +226,9 @@ module _ {k : ℕ} {u : Ui} {h : History} (v : Inv k u h) where
   count-is-a-sum nil = refl
   count-is-a-sum (node i g x cs sib) = let a = count-is-a-sum cs in let b = count-is-a-sum sib in omega arith
 
-  field-inv : (d : NodeId) (hd : has h d ≡ true) (f : Field) → fieldOf d (u .fields) ≡ nothing → firstField vacant (reclaimed (limitOf u) (u .slots) (u .fields)) ≡ just f
+  field-agrees : (d : NodeId) (hd : has h d ≡ true) (f : Field) → fieldOf d (u .fields) ≡ nothing → firstField vacant (reclaimed (limitOf u) (u .slots) (u .fields)) ≡ just f
       → Inv k (withFields u (claimed d (reclaimed (limitOf u) (u .slots) (u .fields)))) (afterChange h (makeField d))
-  field-inv d hd f none some =
+  field-agrees d hd f none some =
       with-texts v (λ i g x. hasBoth d i g) (λ x. keepText (x .text)) _
       (a-field-is-made k u (h .tree) (v .nodes .links) (v .nodes .texts) d hd keepText refl (λ z. refl) f none some)
 
@@ -238,7 +238,7 @@ module _ {k : ℕ} {u : Ui} {h : History} (v : Inv k u h) where
   on-a-node d hd w (just f) q =
       let hf : hasField (w .load) ≡ true = a-node-with-a-text-has-a-field (w .load) (just f) (w .holds ∙ ap textIn q) in
       rw hf (accepted-as-said v u 0 _
-      (subst (λ (t : Forest Info). Inv (suc k) u (withTree h t (h .board .dirty))) (sym (a-field-stays k u (h .tree) (v .nodes .links) (v .nodes .texts) d hd keepText refl (λ z. refl) f q)) (inv-after v)))
+      (subst (λ (t : Forest Info). Inv (suc k) u (withTree h t (h .styling .dirty))) (sym (a-field-stays k u (h .tree) (v .nodes .links) (v .nodes .texts) d hd keepText refl (λ z. refl) f q)) (inv-after v)))
   on-a-node d hd w nothing q =
       let hf : hasField (w .load) ≡ false = a-node-with-a-text-has-a-field (w .load) nothing (w .holds ∙ ap textIn q) in
       let c = count-is-a-sum (h .tree) in
@@ -249,11 +249,11 @@ module _ {k : ℕ} {u : Ui} {h : History} (v : Inv k u h) where
       rw (hf, le-ltb (fieldCount (h .tree)) 8 l, z) (refused-as-said v Full 0 _))
       (λ f z s.
       let l : fieldCount (h .tree) < 8 = omega arith in
-      rw (hf, lt-ltb (fieldCount (h .tree)) 8 l, z) (accepted-as-said v (withFields u (claimed d (reclaimed (limitOf u) (u .slots) (u .fields)))) 0 _ (inv-after (field-inv d hd f q z))))
+      rw (hf, lt-ltb (fieldCount (h .tree)) 8 l, z) (accepted-as-said v (withFields u (claimed d (reclaimed (limitOf u) (u .slots) (u .fields)))) 0 _ (inv-after (field-agrees d hd f q z))))
 
-  fields : (d : NodeId) → AsSaid k h (tree.makeField u d) (refusalOfChange h (makeField d)) (λ _. afterChange h (makeField d))
+  field-as-said : (d : NodeId) → AsSaid k h (tree.makeField u d) (refusalOfChange h (makeField d)) (λ _. afterChange h (makeField d))
   unfolding tree.makeField
-  fields d =
+  field-as-said d =
       subst (λ (n : ℕ). AsSaid k h (onLive u d 0 (takeField u d (fieldOf d (u .fields)))) n (λ _. afterChange h (makeField d)))
       (bool-cases (has h d) (λ b. rw b) (λ b. rw (b, find-nothing d (h .tree) b)))
       (live-as-said v d 0 (λ b.
@@ -262,11 +262,11 @@ module _ {k : ℕ} {u : Ui} {h : History} (v : Inv k u h) where
 
   -- ---- a pass
 
-  pass-inv : (w : Viewport) → Inv k (withPass u (passed (u .slots) (u .layout) w) w)
-      (record { limit = h .limit; tree = placeF (h .tree) (viewRect w ∷ []); named = h .named; board = record { pool = h .board .pool; viewport = w; dirty = false }; input = h .input })
+  pass-agrees : (w : Viewport) → Inv k (withPass u (passed (u .slots) (u .layout) w) w)
+      (withStyling h (placeF (h .tree) (viewRect w ∷ [])) (record { pool = h .styling .pool; viewport = w; dirty = false }))
   unfolding withPass
-  pass-inv w =
-      with-styling v refl (restyled-by-a-pass (h .tree) (viewRect w ∷ []))
+  pass-agrees w =
+      with-styling v refl (same-nodes-placed (h .tree) (viewRect w ∷ []))
       (record {
         dress = pass-keeps-dress k u (h .tree) (v .nodes .links) (v .styling .dress) w;
         pool = record { long = v .styling .pool .long; few = v .styling .pool .few };
@@ -275,30 +275,30 @@ module _ {k : ℕ} {u : Ui} {h : History} (v : Inv k u h) where
         dirty-is = refl;
       })
 
-  passes : (w : Viewport) → AsSaid k h (tree.solve u w) 0 (λ _. afterChange h (solve w))
+  pass-as-said : (w : Viewport) → AsSaid k h (tree.solve u w) 0 (λ _. afterChange h (solve w))
   unfolding tree.solve
-  passes w =
-      let q : (not (u .dirty) && sameView (u .«solved_for») w) ≡ (not (h .board .dirty) && sameView (h .board .viewport) w) =
+  pass-as-said w =
+      let q : (not (u .dirty) && sameView (u .«solved_for») w) ≡ (not (h .styling .dirty) && sameView (h .styling .viewport) w) =
       ap₂ (λ (b : Bool) (z : Viewport). not b && sameView z w) (v .styling .dirty-is) (v .styling .view-is) in
       guarded-as-said v 0
-      (bool-cases (not (h .board .dirty) && sameView (h .board .viewport) w)
+      (bool-cases (not (h .styling .dirty) && sameView (h .styling .viewport) w)
       (λ b. rw (q, b) (accepted-as-said v u 0 (λ _. h) (inv-after v)))
-      (λ b. rw (q, b) (accepted-as-said v (withPass u (passed (u .slots) (u .layout) w) w) 0 _ (inv-after (pass-inv w)))))
+      (λ b. rw (q, b) (accepted-as-said v (withPass u (passed (u .slots) (u .layout) w) w) 0 _ (inv-after (pass-agrees w)))))
 
   -- ---- every call
 
   every-change : k < 2 ^ 63 → (c : Change) → MachineChange c → Kept k u h (change c)
-  every-change small (remove d) m = change-kept v (remove d) (removes small d) refl
-  every-change small (setStyle d s) m = change-kept v (setStyle d s) (styles d s) refl
-  every-change small (setStateTable d table) m = change-kept v (setStateTable d table) (tables d table) refl
-  every-change small (setPatchPool patches count) m = change-kept v (setPatchPool patches count) (pools patches count m) refl
-  every-change small (makeField d) m = change-kept v (makeField d) (fields d) refl
-  every-change small (solve w) m = change-kept v (solve w) (passes w) refl
-  every-change small (handle e) m = change-kept v (handle e) (event-handled v e) refl
-  every-change small nextOutput m = change-kept v nextOutput (output-taken v) refl
+  every-change small (remove d) m = change-kept v (remove d) (remove-as-said small d) refl
+  every-change small (setStyle d s) m = change-kept v (setStyle d s) (style-as-said d s) refl
+  every-change small (setStateTable d table) m = change-kept v (setStateTable d table) (table-as-said d table) refl
+  every-change small (setPatchPool patches count) m = change-kept v (setPatchPool patches count) (pool-as-said patches count m) refl
+  every-change small (makeField d) m = change-kept v (makeField d) (field-as-said d) refl
+  every-change small (solve w) m = change-kept v (solve w) (pass-as-said w) refl
+  every-change small (handle e) m = change-kept v (handle e) (event-as-said v e) refl
+  every-change small nextOutput m = change-kept v nextOutput (output-as-said v) refl
 
   pub every-call : k < 2 ^ 63 → (c : Call) → Machine c → Kept k u h c
   unfolding step accept recorded
-  every-call small (insert d) m = let x = inserts d in record { refused-so = x .number-is; goes-on = x .goes-on }
+  every-call small (insert d) m = let x = insert-as-said d in record { refused-so = x .number-is; goes-on = x .goes-on }
   every-call small (change c) m = every-change small c m
   every-call small (ask q) m = asks v q

@@ -38,22 +38,22 @@ unfolding stop addSat subSat gapTimes maxOf unsignedOf sumTo comesBefore rank gr
 computing = tt
 
 -- The root of a tree of one node is pressed and released, twice; or the pointer leaves it before the release.
-abbrev press : List Call
-press =
+abbrev pressRun : List Call
+pressRun =
     change (solve (record { width = pos 655360; height = pos 655360 })) ∷ change (handle (PointerMoved (pos 3) (pos 3))) ∷ change (handle PointerPressed) ∷ []
 
-abbrev hit : List Call
-hit = press ++ change (handle PointerReleased) ∷ change (handle PointerPressed) ∷ change (handle PointerReleased) ∷ []
+abbrev hitRun : List Call
+hitRun = pressRun ++ change (handle PointerReleased) ∷ change (handle PointerPressed) ∷ change (handle PointerReleased) ∷ []
 
-abbrev missed : List Call
-missed = press ++ change (handle (PointerMoved (pos 30) (pos 3))) ∷ change (handle PointerReleased) ∷ []
+abbrev missedRun : List Call
+missedRun = pressRun ++ change (handle (PointerMoved (pos 30) (pos 3))) ∷ change (handle PointerReleased) ∷ []
 
 -- The fingerprint after each.
-pub activations-are-counted-and-folded : desk-Events.absorb (run (newTree 1 .next) hit) emptyHash .answer .value ≡ 0x753ea3e4669d35a9
+pub activations-are-counted-and-folded : desk-Events.absorb (run (newTree 1 .next) hitRun) emptyHash .answer .value ≡ 0x753ea3e4669d35a9
 unfolding computing
 activations-are-counted-and-folded = refl
 
-pub a-release-elsewhere-activates-nothing : desk-Events.absorb (run (newTree 1 .next) missed) emptyHash .answer .value ≡ 0x6f4748bc953e3ee0
+pub a-release-elsewhere-activates-nothing : desk-Events.absorb (run (newTree 1 .next) missedRun) emptyHash .answer .value ≡ 0x6f4748bc953e3ee0
 unfolding computing
 a-release-elsewhere-activates-nothing = refl
 
@@ -64,14 +64,14 @@ eight = 1 ∷ 2 ∷ 3 ∷ 4 ∷ 5 ∷ 6 ∷ 7 ∷ 8 ∷ []
 abbrev nodeOf : ℕ → NodeId
 nodeOf i = record { index = i; generation = 1 }
 
-abbrev grow : History → List ℕ → History
-grow h [] = h
-grow h (i ∷ is) = grow (recorded h (insert (nodeOf 0)) (nodeOf i)) is
+abbrev inserted-all : History → List ℕ → History
+inserted-all h [] = h
+inserted-all h (i ∷ is) = inserted-all (recorded h (insert (nodeOf 0)) (nodeOf i)) is
 
-abbrev fields : History → List ℕ → History
-fields h [] = h
-fields h (i ∷ is) = fields (recorded h (change (makeField (nodeOf i))) (nodeOf 0)) is
+abbrev fields-made : History → List ℕ → History
+fields-made h [] = h
+fields-made h (i ∷ is) = fields-made (recorded h (change (makeField (nodeOf i))) (nodeOf 0)) is
 
-pub the-eighth-field-is-accepted : refusalOf (fields (grow (start 9) eight) (1 ∷ 2 ∷ 3 ∷ 4 ∷ 5 ∷ 6 ∷ 7 ∷ [])) (change (makeField (nodeOf 8))) ≡ 0
+pub the-eighth-field-is-accepted : refusalOf (fields-made (inserted-all (start 9) eight) (1 ∷ 2 ∷ 3 ∷ 4 ∷ 5 ∷ 6 ∷ 7 ∷ [])) (change (makeField (nodeOf 8))) ≡ 0
 unfolding computing
 the-eighth-field-is-accepted = refl

@@ -44,7 +44,7 @@ use Rattle.desk.specs.declared.UiEvent.{UiEvent}
 use Rattle.desk.specs.declared.UiEvent.the-variants.{PointerMoved, PointerPressed, PointerReleased, TextEntered, Edit}
 use Rattle.desk.specs.declared.Key.{Key}
 use Rattle.desk.specs.declared.Key.the-variants.{Char, Op}
-use Rattle.desk.proofs.Invariant.{OwnName, OwnText, Inv, Restyled, restyled-each, restyled-some, restyled-by-a-pass}
+use Rattle.desk.proofs.Invariant.{OwnName, OwnText, Inv, SameNodes, same-nodes-each, same-nodes-some, same-nodes-placed}
 use Rattle.desk.proofs.AnswerLaws.{Kept}
 use Rattle.desk.proofs.CallSteps.{every-call}
 use Rattle.desk.proofs.Demand3.{starts, demand-3}
@@ -96,7 +96,7 @@ field-not h (just x) = unless-not (hasField x || ltb (fieldCount (h .tree)) 8) 4
 change-is-not-1 : (h : History) (c : Change) → refusalOfChange h c ≡ 1 → ⊥
 change-is-not-1 h (remove d) = unless-not (has h d) 3 _ (λ e. omega arith) (unless-not (not (sameId d rootId)) 5 0 (λ e. omega arith) (λ e. omega arith))
 change-is-not-1 h (setStyle d s) = unless-not (has h d) 3 0 (λ e. omega arith) (λ e. omega arith)
-change-is-not-1 h (setStateTable d table) = unless-not (has h d) 3 _ (λ e. omega arith) (unless-not (all (inPool (length (h .board .pool))) table) 6 0 (λ e. omega arith) (λ e. omega arith))
+change-is-not-1 h (setStateTable d table) = unless-not (has h d) 3 _ (λ e. omega arith) (unless-not (all (inPool (length (h .styling .pool))) table) 6 0 (λ e. omega arith) (λ e. omega arith))
 change-is-not-1 h (setPatchPool patches count) = unless-not (not (ltb 64 count)) 7 0 (λ e. omega arith) (λ e. omega arith)
 change-is-not-1 h (makeField d) = field-not h (find d (h .tree))
 change-is-not-1 h (solve v) = λ e. omega arith
@@ -160,13 +160,13 @@ module _ (P : ℕ → ℕ → Info → Type 0) where
       bool-cases (hasBoth d i g) (λ b. rw b (a .2)) (λ b. rw b (a .0, all-cut-of d cs (a .1), all-cut-of d sib (a .2)))
 
 -- nodes that keep name and text
-kept : (log : Log) {t t′ : Forest Info} → Restyled t t′ → AllF (ByKeys log) t → AllF (ByKeys log) t′
-kept log r a = r .keeps (ByKeys log) (λ i g x y en et p z q. p z (sym et ∙ q) ∙ ap (λ (m : ℕ). textOfKeys (log m)) (sym en)) a
+keys-kept : (log : Log) {t t′ : Forest Info} → SameNodes t t′ → AllF (ByKeys log) t → AllF (ByKeys log) t′
+keys-kept log r a = r .keeps (ByKeys log) (λ i g x y en et p z q. p z (sym et ∙ q) ∙ ap (λ (m : ℕ). textOfKeys (log m)) (sym en)) a
 
 -- a key
 key-logged : (log : Log) (focus : Maybe ℕ) (key : Key) (t : Forest Info) → AllF (ByKeys log) t
     → AllF (ByKeys (logKey focus key log)) (changeNamed focus (λ x. withField x (mapMaybe (keyText key) (x .text))) t)
-key-logged log nothing key t a = kept log (restyled-each _ (λ i g x. (refl, refl)) t) a
+key-logged log nothing key t a = keys-kept log (same-nodes-each _ (λ i g x. (refl, refl)) t) a
 key-logged log (just m) key t a =
     all-mapF (ByKeys (logKey (just m) key log)) (λ i g x. pick (same m (x .name)) (withField x (mapMaybe (keyText key) (x .text))) x) t
     (all-map (ByKeys log) (λ i g x. ByKeys (logKey (just m) key log) i g (pick (same m (x .name)) (withField x (mapMaybe (keyText key) (x .text))) x)) t
@@ -190,7 +190,7 @@ event-logged h (Edit op) log a = key-logged log (h .input .focus) (Op op) (h .tr
 
 refresh-logged : (h : History) (log : Log) → AllF (ByKeys log) (h .tree) → AllF (ByKeys log) (refresh h .tree)
 unfolding refresh wears
-refresh-logged h log a = kept log (restyled-each _ (λ i g x. (refl, refl)) (h .tree)) a
+refresh-logged h log a = keys-kept log (same-nodes-each _ (λ i g x. (refl, refl)) (h .tree)) a
 
 -- a field made
 module _ (k : ℕ) (u : Ui) (h : History) (v : Inv k u h) (log : Log) (a : AllF (ByKeys log) (h .tree)) (d : NodeId) where
@@ -244,10 +244,10 @@ module _ (k : ℕ) (u : Ui) (h : History) (v : Inv k u h) (log : Log) (a : AllF 
   change-logged : (c : Change) → refusalOfChange h c ≡ 0 → AllF (ByKeys (loggedChange h c log)) (afterChange h c .tree)
   unfolding wears restyled bare
   change-logged (remove d) j = all-cut-of (ByKeys log) d (h .tree) a
-  change-logged (setStyle d s) j = kept log (restyled-some (hasBoth d) (restyled s) (λ x. (refl, refl)) (h .tree)) a
+  change-logged (setStyle d s) j = keys-kept log (same-nodes-some (hasBoth d) (restyled s) (λ x. (refl, refl)) (h .tree)) a
   change-logged (setStateTable d table) j =
-      kept log (restyled-some (hasBoth d) (λ x. wears (h .board .pool) (x .bits) (withTable table x)) (λ x. (refl, refl)) (h .tree)) a
-  change-logged (setPatchPool patches count) j = kept log (restyled-each (λ i g x. bare x) (λ i g x. (refl, refl)) (h .tree)) a
+      keys-kept log (same-nodes-some (hasBoth d) (λ x. wears (h .styling .pool) (x .bits) (withTable table x)) (λ x. (refl, refl)) (h .tree)) a
+  change-logged (setPatchPool patches count) j = keys-kept log (same-nodes-each (λ i g x. bare x) (λ i g x. (refl, refl)) (h .tree)) a
   change-logged (makeField d) j =
       bool-cases (hasId d (h .tree))
       (λ b. made (find-known (Own k u h v log a d) d (h .tree) (all-both (OwnName (h .named)) (OwnText (u .fields)) (h .tree) (v .nodes .naming .own) (v .nodes .texts .texts)) b))
@@ -256,9 +256,9 @@ module _ (k : ℕ) (u : Ui) (h : History) (v : Inv k u h) (log : Log) (a : AllF 
       made : Known (Own k u h v log a d) d (h .tree) → AllF (ByKeys (logField (find d (h .tree)) log)) (changeOf d (λ x. withField x (keepText (x .text))) (h .tree))
       made K = subst (λ (m : Maybe Info). AllF (ByKeys (logField m log)) (changeOf d (λ x. withField x (keepText (x .text))) (h .tree))) (sym (K .found)) (made-logged k u h v log a d (K .load) (K .found) (K .holds))
   change-logged (solve w) j =
-      bool-cases (not (h .board .dirty) && sameView (h .board .viewport) w)
+      bool-cases (not (h .styling .dirty) && sameView (h .styling .viewport) w)
       (λ b. rw b a)
-      (λ b. rw b (kept log (restyled-by-a-pass (h .tree) (viewRect w ∷ [])) a))
+      (λ b. rw b (keys-kept log (same-nodes-placed (h .tree) (viewRect w ∷ [])) a))
   change-logged (handle e) j = refresh-logged (afterEvent h e) (logEvent (h .input .focus) e log) (event-logged h e log a)
   change-logged nextOutput j = a
 

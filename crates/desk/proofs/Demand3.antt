@@ -85,7 +85,7 @@ change-keeps-names h (setStyle d s) = refl
 change-keeps-names h (setStateTable d table) = refl
 change-keeps-names h (setPatchPool patches count) = refl
 change-keeps-names h (makeField d) = refl
-change-keeps-names h (solve w) = bool-cases (not (h .board .dirty) && sameView (h .board .viewport) w) (λ b. rw b) (λ b. rw b)
+change-keeps-names h (solve w) = bool-cases (not (h .styling .dirty) && sameView (h .styling .viewport) w) (λ b. rw b) (λ b. rw b)
 change-keeps-names h (handle e) = refresh-keeps-names (afterEvent h e) ∙ event-keeps-names h e
 change-keeps-names h nextOutput = refl
 

@@ -35,7 +35,7 @@ use Rattle.tree.proofs.WellLaws.{StatesWell}
 use Rattle.tree.proofs.Parts.{Links, Naming, Dress, Pool, Texts, Queue, textIn}
 use Rattle.tree.proofs.ShapeParts.{links-after, links-of-shape, naming-by-shape, texts-by-shape}
 use Rattle.tree.proofs.FieldParts.{retexted, texts-keep-dress, texts-keep-naming}
-use Rattle.desk.specs.History.{History, Board, Input, withTree, withInput, idNamed}
+use Rattle.desk.specs.History.{History, Styling, Input, withStyling, withNames, withInput, withTree, idNamed}
 
 -- a name that was made
 abbrev pub NameIn : List NodeId → Maybe ℕ → Type 0
@@ -63,7 +63,7 @@ pub record NodesAgree (k : ℕ) (u : Ui) (limit : ℕ) (t : Forest Info) (named 
   pub root-is : at (u .slots) 0 .generation ≡ 1
   pub limit-is : limitOf u ≡ limit
 
-pub record StylingAgrees (u : Ui) (t : Forest Info) (b : Board) : Type 0 where
+pub record StylingAgrees (u : Ui) (t : Forest Info) (b : Styling) : Type 0 where
   pub dress : Dress u t
   pub pool : Pool u
   pub pool-is : poolOf u ≡ b .pool
@@ -77,7 +77,7 @@ pub record InputAgrees (a : Interaction) (named : List NodeId) (i : Input) : Typ
 
 pub record Inv (k : ℕ) (u : Ui) (h : History) : Type 0 where
   pub nodes : NodesAgree k u (h .limit) (h .tree) (h .named)
-  pub styling : StylingAgrees u (h .tree) (h .board)
+  pub styling : StylingAgrees u (h .tree) (h .styling)
   pub input : InputAgrees (u .interaction) (h .named) (h .input)
   pub queue : Queue u
 
@@ -165,9 +165,9 @@ module _ {u u′ : Ui} where
   }
 
   -- other looks under the same pool and viewport
-  pub restyled-under : {t t′ : Forest Info} {b : Board} {d : Bool} → poolState u′ ≡ poolState u → StylingAgrees u t b → Dress u′ t′ → u′ .dirty ≡ d
+  pub styling-under : {t t′ : Forest Info} {b : Styling} {d : Bool} → poolState u′ ≡ poolState u → StylingAgrees u t b → Dress u′ t′ → u′ .dirty ≡ d
       → StylingAgrees u′ t′ (record { pool = b .pool; viewport = b .viewport; dirty = d })
-  restyled-under e s dr ed = record {
+  styling-under e s dr ed = record {
     dress = dr;
     pool = pool-by e (s .pool);
     pool-is = ap (λ (p : PoolState). take (p .count) (p .patches)) e ∙ s .pool-is;
@@ -175,36 +175,36 @@ module _ {u u′ : Ui} where
     dirty-is = ed;
   }
 
-  styling-by : {t : Forest Info} {b : Board} → styleState u′ ≡ styleState u → StylingAgrees u t b → StylingAgrees u′ t b
-  styling-by e s = restyled-under (ap (λ (p : StyleState). p .pool) e) s (dress-by e (s .dress)) (ap (λ (p : StyleState). p .dirty) e ∙ s .dirty-is)
+  styling-by : {t : Forest Info} {b : Styling} → styleState u′ ≡ styleState u → StylingAgrees u t b → StylingAgrees u′ t b
+  styling-by e s = styling-under (ap (λ (p : StyleState). p .pool) e) s (dress-by e (s .dress)) (ap (λ (p : StyleState). p .dirty) e ∙ s .dirty-is)
 
 -- ---- nodes that keep place, name and text
 
-pub record Restyled (t t′ : Forest Info) : Type 1 where
+pub record SameNodes (t t′ : Forest Info) : Type 1 where
   pub shape-is : shape t ≡ shape t′
   pub keeps : (P : ℕ → ℕ → Info → Type 0) → ((i g : ℕ) (x y : Info) → y .name ≡ x .name → y .text ≡ x .text → P i g x → P i g y) → AllF P t → AllF P t′
 
-pub restyled-each : (w : ℕ → ℕ → Info → Info) → ((i g : ℕ) (x : Info) → (w i g x .name ≡ x .name) × (w i g x .text ≡ x .text)) → (t : Forest Info) → Restyled t (mapF w t)
-restyled-each w e t = record {
+pub same-nodes-each : (w : ℕ → ℕ → Info → Info) → ((i g : ℕ) (x : Info) → (w i g x .name ≡ x .name) × (w i g x .text ≡ x .text)) → (t : Forest Info) → SameNodes t (mapF w t)
+same-nodes-each w e t = record {
   shape-is = sym (shape-map w t);
   keeps = λ P q a. all-mapF P w t (all-map P (λ i g x. P i g (w i g x)) t (λ i g x _ p. q i g x (w i g x) (e i g x .0) (e i g x .1) p) a);
 }
 
-pub restyled-some : (b : ℕ → ℕ → Bool) (f : Info → Info) → ((x : Info) → (f x .name ≡ x .name) × (f x .text ≡ x .text)) → (t : Forest Info) → Restyled t (mapF (λ i g x. pick (b i g) (f x) x) t)
-restyled-some b f e t = restyled-each (λ i g x. pick (b i g) (f x) x) (λ i g x. go (b i g) x) t
+pub same-nodes-some : (b : ℕ → ℕ → Bool) (f : Info → Info) → ((x : Info) → (f x .name ≡ x .name) × (f x .text ≡ x .text)) → (t : Forest Info) → SameNodes t (mapF (λ i g x. pick (b i g) (f x) x) t)
+same-nodes-some b f e t = same-nodes-each (λ i g x. pick (b i g) (f x) x) (λ i g x. go (b i g) x) t
   where
     go : (c : Bool) (x : Info) → (pick c (f x) x .name ≡ x .name) × (pick c (f x) x .text ≡ x .text)
     go true x = e x
     go false x = (refl, refl)
 
-pub restyled-by-a-pass : (t : Forest Info) (rs : List Rect) → Restyled t (placeF t rs)
-restyled-by-a-pass t rs = record {
+pub same-nodes-placed : (t : Forest Info) (rs : List Rect) → SameNodes t (placeF t rs)
+same-nodes-placed t rs = record {
   shape-is = placing-keeps-the-shape t rs;
   keeps = λ P q a. placing-keeps-what-boxes-leave-alone P (λ i g x r p. q i g x (withBox x r) refl refl p) t rs a;
 }
 
-nodes-restyled : {k : ℕ} {u : Ui} {limit : ℕ} {t t′ : Forest Info} {named : List NodeId} → Restyled t t′ → NodesAgree k u limit t named → NodesAgree k u limit t′ named
-nodes-restyled {k} {u} {limit} {t} {t′} {named} r n = record {
+nodes-of-same : {k : ℕ} {u : Ui} {limit : ℕ} {t t′ : Forest Info} {named : List NodeId} → SameNodes t t′ → NodesAgree k u limit t named → NodesAgree k u limit t′ named
+nodes-of-same {k} {u} {limit} {t} {t′} {named} r n = record {
   links = links-of-shape t t′ (r .shape-is) k u u refl refl refl refl (n .links);
   naming = naming-by-shape t t′ (r .shape-is) (u .slots) named (n .naming)
       (r .keeps (OwnName named)
@@ -238,19 +238,19 @@ module _ {k : ℕ} {u : Ui} {h : History} (v : Inv k u h) where
   -- nodes came or went: a pass is due
   pub with-nodes : {u′ : Ui} {t′ : Forest Info} {named′ : List NodeId} → besideNodes u′ ≡ besideNodes u → u′ .dirty ≡ true
       → NodesAgree (suc k) u′ (h .limit) t′ named′ → Dress u′ t′ → InputAgrees (u .interaction) named′ (h .input)
-      → Inv (suc k) u′ (record { limit = h .limit; tree = t′; named = named′; board = record { pool = h .board .pool; viewport = h .board .viewport; dirty = true }; input = h .input })
+      → Inv (suc k) u′ (withNames (withTree h t′ true) named′)
   with-nodes {u′} {t′} {named′} e ed n d i = record {
     nodes = n;
-    styling = restyled-under (ap (λ (s : BesideNodes). s .pool) e) (v .styling) d ed;
+    styling = styling-under (ap (λ (s : BesideNodes). s .pool) e) (v .styling) d ed;
     input = subst (λ (s : BesideNodes). InputAgrees (s .interaction) named′ (h .input)) (sym e) i;
     queue = queue-by (ap (λ (s : BesideNodes). s .queue) e) (v .queue);
   }
 
   -- other looks, boxes, pool or viewport
-  pub with-styling : {u′ : Ui} {t′ : Forest Info} {b : Board} → besideStyling u′ ≡ besideStyling u → Restyled (h .tree) t′ → StylingAgrees u′ t′ b
-      → Inv k u′ (record { limit = h .limit; tree = t′; named = h .named; board = b; input = h .input })
+  pub with-styling : {u′ : Ui} {t′ : Forest Info} {b : Styling} → besideStyling u′ ≡ besideStyling u → SameNodes (h .tree) t′ → StylingAgrees u′ t′ b
+      → Inv k u′ (withStyling h t′ b)
   with-styling e r s = record {
-    nodes = nodes-by (ap (λ (s : BesideStyling). s .nodes) e) (nodes-restyled r (v .nodes));
+    nodes = nodes-by (ap (λ (s : BesideStyling). s .nodes) e) (nodes-of-same r (v .nodes));
     styling = s;
     input = subst (λ (s : BesideStyling). InputAgrees (s .interaction) (h .named) (h .input)) (sym e) (v .input);
     queue = queue-by (ap (λ (s : BesideStyling). s .queue) e) (v .queue);
@@ -258,7 +258,7 @@ module _ {k : ℕ} {u : Ui} {h : History} (v : Inv k u h) where
 
   -- other fields, and other texts at some nodes
   pub with-texts : (b : ℕ → ℕ → Info → Bool) (y : Info → Maybe Text) (fs : List Field) → Texts (u .slots) fs (mapF (retexted b y) (h .tree))
-      → Inv k (withFields u fs) (withTree h (mapF (retexted b y) (h .tree)) (h .board .dirty))
+      → Inv k (withFields u fs) (withTree h (mapF (retexted b y) (h .tree)) (h .styling .dirty))
   unfolding withFields
   with-texts b y fs x = record {
     nodes = record {
@@ -268,7 +268,7 @@ module _ {k : ℕ} {u : Ui} {h : History} (v : Inv k u h) where
       root-is = v .nodes .root-is;
       limit-is = v .nodes .limit-is;
     };
-    styling = restyled-under refl (v .styling) (dress-by refl (texts-keep-dress b y u (h .tree) (v .styling .dress))) (v .styling .dirty-is);
+    styling = styling-under refl (v .styling) (dress-by refl (texts-keep-dress b y u (h .tree) (v .styling .dress))) (v .styling .dirty-is);
     input = v .input;
     queue = queue-by refl (v .queue);
   }

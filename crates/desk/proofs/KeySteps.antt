@@ -63,7 +63,7 @@ module _ (k : ℕ) (u : Ui) (h : History) (v : Inv k u h) (key : Key) (fo : Mayb
   named-text = mapF (retexted (λ i g x. isNamed fo x) (λ x. mapMaybe (keyText key) (x .text))) (h .tree)
 
   abbrev after-key : History
-  after-key = withTree h named-text (h .board .dirty)
+  after-key = withTree h named-text (h .styling .dirty)
 
   -- the same tree but for fields and the fold of edits
   with-keyed : (fs : List Field) (a : Interaction) → InputAgrees a (h .named) (h .input) → Texts (u .slots) fs named-text → Inv k (withInteraction (withFields u fs) a) after-key
@@ -110,9 +110,9 @@ of-all-nodes P h nil = tt
 of-all-nodes P h (node i g x cs sib) = (h i g x, of-all-nodes P h cs, of-all-nodes P h sib)
 
 module _ {k : ℕ} {u : Ui} {h : History} (v : Inv k u h) (key : Key) where
-  key-into : (fo : Maybe ℕ) → NameIn (h .named) fo → Inv k (editFocused u key (idNamed (h .named) fo)) (withTree h (changeNamed fo (λ x. withField x (mapMaybe (keyText key) (x .text))) (h .tree)) (h .board .dirty))
+  key-into : (fo : Maybe ℕ) → NameIn (h .named) fo → Inv k (editFocused u key (idNamed (h .named) fo)) (withTree h (changeNamed fo (λ x. withField x (mapMaybe (keyText key) (x .text))) (h .tree)) (h .styling .dirty))
   key-into nothing n =
-      subst (λ (t : Forest Info). Inv k u (withTree h t (h .board .dirty)))
+      subst (λ (t : Forest Info). Inv k u (withTree h t (h .styling .dirty)))
       (sym (unchanged-at-each-node (λ i g x. pick (isNamed nothing x) (withField x (mapMaybe (keyText key) (x .text))) x) (h .tree) (of-all-nodes _ (λ i g x. refl) (h .tree)))) v
   key-into (just m) n = into-the-node k u h v key (just m) m n refl
 

@@ -6,7 +6,7 @@ use Prim.Native.Nat.{ℕ}
 use Rattle.tree.specs.Tests.{nothing}
 use Rattle.tree.specs.States.{refreshed}
 use Rattle.tree.specs.Forest.{mapF, anyF}
-use Rattle.tree.specs.Nodes.{Info, wears, swaps, bitsFor, hitF}
+use Rattle.tree.specs.Nodes.{Info, wears, swaps, hitF}
 use Rattle.tree.specs.Hit.{hitTest}
 use Rattle.tree.specs.Trees.{withLooks, withStated}
 use Rattle.tree.specs.declared.Ui.{Ui}
@@ -16,8 +16,8 @@ use Rattle.tree.proofs.HitLaws.{Names, the-hit-test-names-the-forests-node}
 use Rattle.tree.proofs.Parts.{Dress}
 use Rattle.tree.proofs.LookParts.{refresh-keeps-dress, refresh-dirties}
 use Rattle.desk.specs.Events.{hitOf}
-use Rattle.desk.specs.History.{History, hitName, refresh}
-use Rattle.desk.proofs.Invariant.{NamedBy, Inv, restyled-under, restyled-each, with-styling}
+use Rattle.desk.specs.History.{History, hitName, bitsIn, refresh}
+use Rattle.desk.proofs.Invariant.{NamedBy, Inv, styling-under, same-nodes-each, with-styling}
 use Rattle.desk.proofs.NameLaws.{hit-is-named, bits-by-names, no-bits-of-dead-slots}
 
 module _ {k : ℕ} {u : Ui} {h : History} (v : Inv k u h) where
@@ -35,11 +35,11 @@ module _ {k : ℕ} {u : Ui} {h : History} (v : Inv k u h) where
       let t = h .tree in
       let n = v .nodes in
       let s = v .styling in
-      let bits : ℕ → ℕ → Info → ℕ = λ i g x. bitsFor (hitName h) (h .input .pressed) (h .input .focus) x in
+      let bits : ℕ → ℕ → Info → ℕ = λ i g x. bitsIn h x in
       let agree = bits-by-names k u t (h .named) (n .links) (n .naming) (hitOf u) (hitName h) (h .input .pressed) (h .input .focus) hits-agree (v .input .pressed) (v .input .focus) in
       let none = no-bits-of-dead-slots k u t (h .named) (n .links) (n .naming) (hitOf u) (hitName h) (h .input .pressed) (h .input .focus) hits-agree (v .input .pressed) (v .input .focus) in
-      with-styling v refl (restyled-each (λ i g x. wears (h .board .pool) (bits i g x) x) (λ i g x. (refl, refl)) t)
-      (restyled-under refl s
+      with-styling v refl (same-nodes-each (λ i g x. wears (h .styling .pool) (bits i g x) x) (λ i g x. (refl, refl)) t)
+      (styling-under refl s
       (subst (λ (q : List StatePatch). Dress (refreshed u (hitOf u)) (mapF (λ i g x. wears q (bits i g x) x) t)) (s .pool-is) (refresh-keeps-dress k u t (n .links) (s .dress) (hitOf u) bits agree none))
       (refresh-dirties k u t (n .links) (s .dress) (hitOf u) bits agree none
       ∙ ap₂ (λ (b : Bool) (q : List StatePatch). b || anyF (λ i g x. swaps q (bits i g x) x) t) (s .dirty-is) (s .pool-is)))

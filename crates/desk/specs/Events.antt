@@ -113,6 +113,7 @@ appliedEvent u hit PointerReleased = releasedOn u hit (u .interaction .pressed)
 appliedEvent u hit (TextEntered ch) = editFocused u (Char ch) (u .interaction .focus)
 appliedEvent u hit (Edit op) = editFocused u (Op op) (u .interaction .focus)
 
+-- The node under the pointer. Press, release and hover all go by it.
 unfoldable pub hitOf : Ui → MaybeId
 hitOf u = hitTest u (u .interaction .pointer)
 

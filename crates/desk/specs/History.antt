@@ -64,17 +64,17 @@ pub record Input : Type 0 where
   pub focus : Maybe ℕ
 
 -- What a pass and wearing go by: the pool, the viewport of the last pass, and whether a pass is due.
-pub record Board : Type 0 where
+pub record Styling : Type 0 where
   pub pool : List StatePatch
   pub viewport : Viewport
   pub dirty : Bool
 
--- The live nodes; every id that was ever given, at the place of its node's name; the board; the input.
+-- The live nodes; every id that was ever given, at the place of its node's name; the styling; the input.
 pub record History : Type 0 where
   pub limit : ℕ
   pub tree : Forest Info
   pub named : List NodeId
-  pub board : Board
+  pub styling : Styling
   pub input : Input
 
 abbrev pub rootId : NodeId
@@ -89,16 +89,23 @@ start limit′ = record {
   limit = limitFrom limit′;
   tree = node 0 1 (newInfo 0) nil nil;
   named = rootId ∷ [];
-  board = record { pool = []; viewport = record { width = pos 0; height = pos 0 }; dirty = true };
+  styling = record { pool = []; viewport = record { width = pos 0; height = pos 0 }; dirty = true };
   input = record { pointer = record { x = pos 0; y = pos 0 }; pressed = nothing; focus = nothing };
 }
 
--- The history with some of it changed.
-abbrev pub withTree : History → Forest Info → Bool → History
-withTree h t d = record { limit = h .limit; tree = t; named = h .named; board = record { pool = h .board .pool; viewport = h .board .viewport; dirty = d }; input = h .input }
+-- The history with some of it changed: definitions touch it through these alone, so that a field more changes them and the start.
+abbrev pub withStyling : History → Forest Info → Styling → History
+withStyling h t s = record { limit = h .limit; tree = t; named = h .named; styling = s; input = h .input }
+
+abbrev pub withNames : History → List NodeId → History
+withNames h names = record { limit = h .limit; tree = h .tree; named = names; styling = h .styling; input = h .input }
 
 abbrev pub withInput : History → Input → History
-withInput h i = record { limit = h .limit; tree = h .tree; named = h .named; board = h .board; input = i }
+withInput h i = record { limit = h .limit; tree = h .tree; named = h .named; styling = h .styling; input = i }
+
+-- Other nodes, and whether a pass is due.
+abbrev pub withTree : History → Forest Info → Bool → History
+withTree h t due = withStyling h t (record { pool = h .styling .pool; viewport = h .styling .viewport; dirty = due })
 
 -- Some live node has the id.
 abbrev pub has : History → NodeId → Bool
@@ -144,7 +151,7 @@ refusalOfField h (just x) = unless (hasField x || ltb (fieldCount (h .tree)) 8) 
 abbrev pub refusalOfChange : History → Change → ℕ
 refusalOfChange h (remove d) = unless (has h d) (numberOf Missing) (unless (not (sameId d rootId)) (numberOf Root) 0)
 refusalOfChange h (setStyle d s) = unless (has h d) (numberOf Missing) 0
-refusalOfChange h (setStateTable d table) = unless (has h d) (numberOf Missing) (unless (all (inPool (length (h .board .pool))) table) (numberOf Foreign) 0)
+refusalOfChange h (setStateTable d table) = unless (has h d) (numberOf Missing) (unless (all (inPool (length (h .styling .pool))) table) (numberOf Foreign) 0)
 refusalOfChange h (setPatchPool patches count) = unless (not (ltb 64 count)) (numberOf Long) 0
 refusalOfChange h (makeField d) = refusalOfField h (find d (h .tree))
 refusalOfChange h (solve v) = 0
@@ -166,16 +173,19 @@ refusalOf h (insert d) = unless (has h d) (numberOf Missing) (unless (ltb (size 
 refusalOf h (change c) = refusalOfChange h c
 refusalOf h (ask q) = refusalOfQuestion h q
 
--- The node under the pointer, by this tree and these boxes.
+-- The name of the node under the pointer, by this tree and these boxes. Press, release and hover all go by it.
 abbrev pub hitName : History → Maybe ℕ
 hitName h = hitF (h .input .pointer) nothing (h .tree)
 
--- Every live node wears the bits that follow from the hit, the press and the focus.
+-- The bits of a node follow from the hit, the press and the focus.
+abbrev pub bitsIn : History → Info → ℕ
+bitsIn h x = bitsFor (hitName h) (h .input .pressed) (h .input .focus) x
+
+-- Every live node wears its bits as they stand.
 unfoldable pub refresh : History → History
 refresh h =
-    let bits : Info → ℕ = bitsFor (hitName h) (h .input .pressed) (h .input .focus) in
-    let pool = h .board .pool in
-    withTree h (mapF (λ i g x. wears pool (bits x) x) (h .tree)) (h .board .dirty || anyF (λ i g x. swaps pool (bits x) x) (h .tree))
+    let pool = h .styling .pool in
+    withTree h (mapF (λ i g x. wears pool (bitsIn h x) x) (h .tree)) (h .styling .dirty || anyF (λ i g x. swaps pool (bitsIn h x) x) (h .tree))
 
 -- The name is the other's.
 abbrev pub sameName : Maybe ℕ → Maybe ℕ → Bool
@@ -193,7 +203,7 @@ mapMaybe f nothing = nothing
 mapMaybe f (just t) = just (f t)
 
 abbrev pub typedInto : History → Key → History
-typedInto h key = withTree h (changeNamed (h .input .focus) (λ x. withField x (mapMaybe (keyText key) (x .text))) (h .tree)) (h .board .dirty)
+typedInto h key = withTree h (changeNamed (h .input .focus) (λ x. withField x (mapMaybe (keyText key) (x .text))) (h .tree)) (h .styling .dirty)
 
 -- An event before the bits are refreshed.
 abbrev pub afterEvent : History → UiEvent → History
@@ -207,9 +217,8 @@ afterEvent h (Edit op) = typedInto h (Op op)
 -- A new last child of a node, with a name never used.
 unfoldable pub grown : History → NodeId → NodeId → History
 grown h parent new =
-    let x = newInfo (length (h .named)) in
-    let t = setKidsOf parent (app (kidsOf parent (h .tree)) (node (new .index) (new .generation) x nil nil)) (h .tree) in
-    record { limit = h .limit; tree = t; named = h .named ++ new ∷ []; board = record { pool = h .board .pool; viewport = h .board .viewport; dirty = true }; input = h .input }
+    let child = node (new .index) (new .generation) (newInfo (length (h .named))) nil nil in
+    withNames (withTree h (setKidsOf parent (app (kidsOf parent (h .tree)) child) (h .tree)) true) (h .named ++ new ∷ [])
 
 abbrev pub keepText : Maybe Text → Maybe Text
 keepText nothing = just (text [] [])
@@ -220,21 +229,16 @@ abbrev pub afterChange : History → Change → History
 afterChange h (remove d) = withTree h (cutOf d (h .tree)) true
 afterChange h (setStyle d s) = withTree h (changeOf d (restyled s) (h .tree)) true
 afterChange h (setStateTable d table) =
-    let pool = h .board .pool in
+    let pool = h .styling .pool in
     withTree h (changeOf d (λ x. wears pool (x .bits) (withTable table x)) (h .tree))
-    (h .board .dirty || anyF (λ i g x. hasBoth d i g && swaps pool (x .bits) (withTable table x)) (h .tree))
+    (h .styling .dirty || anyF (λ i g x. hasBoth d i g && swaps pool (x .bits) (withTable table x)) (h .tree))
 afterChange h (setPatchPool patches count) =
-    record {
-      limit = h .limit;
-      tree = mapF (λ i g x. bare x) (h .tree);
-      named = h .named;
-      board = record { pool = take count patches; viewport = h .board .viewport; dirty = h .board .dirty || anyF (λ i g x. not (same (x .applied) noPatch)) (h .tree) };
-      input = h .input;
-    }
-afterChange h (makeField d) = withTree h (changeOf d (λ x. withField x (keepText (x .text))) (h .tree)) (h .board .dirty)
+    withStyling h (mapF (λ i g x. bare x) (h .tree))
+    (record { pool = take count patches; viewport = h .styling .viewport; dirty = h .styling .dirty || anyF (λ i g x. not (same (x .applied) noPatch)) (h .tree) })
+afterChange h (makeField d) = withTree h (changeOf d (λ x. withField x (keepText (x .text))) (h .tree)) (h .styling .dirty)
 afterChange h (solve v) =
-    pick (not (h .board .dirty) && sameView (h .board .viewport) v) h
-    (record { limit = h .limit; tree = placeF (h .tree) (viewRect v ∷ []); named = h .named; board = record { pool = h .board .pool; viewport = v; dirty = false }; input = h .input })
+    pick (not (h .styling .dirty) && sameView (h .styling .viewport) v) h
+    (withStyling h (placeF (h .tree) (viewRect v ∷ [])) (record { pool = h .styling .pool; viewport = v; dirty = false }))
 afterChange h (handle e) = refresh (afterEvent h e)
 afterChange h nextOutput = h
 
