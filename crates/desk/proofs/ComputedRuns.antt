@@ -4,37 +4,31 @@ use mathlib.Core.Path.{_≡_, refl}
 use mathlib.Core.List.{List, [], _∷_, _++_}
 use lib.IntN.{pos}
 use Rattle.field.specs.declared.NodeId.{NodeId}
-use Rattle.arithmetic.specs.Scalar.{stop, addSat, subSat, gapTimes, maxOf, unsignedOf}
-use Rattle.arithmetic.specs.Growth.{sumTo, comesBefore, rank, growSum, planGrowth}
+use Rattle.arithmetic.specs.Scalar.{stop, addSat, subSat, unsignedOf}
 use Rattle.arithmetic.specs.Fold.{emptyHash, fnvByte, foldBytes, lowBytes, absorbed}
-use Rattle.text.specs.Choice.{within}
-use Rattle.text.specs.Utf8.{isScalar, allScalars, encoded, encodedAll, encodedAs}
-use Rattle.text.specs.Reader.{leadOf, stepOf, runFrom, isUtf8, scalarsFrom, scalars}
-use Rattle.text.specs.Steps.{backOf, front, stepBack, stepForward}
-use Rattle.field.specs.Fields.{emptyField, inRange, fieldOk, moved, cutOut, putIn, stepBackOf, stepForwardOf, editedIn, edited, inserted, editAnswer, insertAnswer, shownOf, textOf, withText}
+use Rattle.text.specs.Reader.{runFrom, isUtf8}
+use Rattle.field.specs.Fields.{emptyField, inRange, fieldOk}
 use Rattle.tree.specs.Tests.{same, δ}
-use Rattle.tree.specs.Trees.{withNodes, withLooks, withPool, withStated, withFields, withPass, withInteraction, withWaiting}
-use Rattle.tree.specs.Slots.{at, put, change as changeSlot, isLive, chain, chainBack, kidsAt, order, linkAfter, linkLast, unlinkFrom, unlink, freeOrder, freeing, aged, freed}
+use Rattle.tree.specs.Trees.{withLooks, withStated, withPass, withInteraction, withWaiting}
+use Rattle.tree.specs.Slots.{at, isLive, chain, kidsAt, order}
 use Rattle.tree.specs.Styles.{layoutAt, stateAt}
-use Rattle.tree.specs.States.{entryOf, patchStyle, touches, inPool, wear, bitsOf, bitsAt, wearAll, slotIn, bearing, refreshed, styledAt, tabledAt, bared, bareAll}
-use Rattle.tree.specs.Layout.{outer, summed, content, want, offset, total, boxes, place, measureAt, measureAll, setRects, arrangeAt, arrangeAll, passed, holds}
+use Rattle.tree.specs.States.{entryOf, inPool, wear, bitsOf, bitsAt, wearAll, slotIn, bearing, refreshed}
+use Rattle.tree.specs.Layout.{boxes, place, measureAt, measureAll, setRects, arrangeAt, arrangeAll, passed, holds}
 use Rattle.tree.specs.Hit.{lastOf, descend, holdsAt, hitTest}
-use Rattle.tree.specs.Fields.{fieldOf, reclaimed, claimed}
 use Rattle.tree.specs.Rules.{kidsWell, nodeWell, freeWell, eachOnce, linksWell, linked, stateWell, distinct, ownersWell, broken}
 use Rattle.tree.specs.Calls as tree-Calls
-use Rattle.tree.specs.Calls.{guarded, onLive, newSlot, newSlots, fresh, newTree, insertAt, resetStates, removeAt, pooled, onField}
+use Rattle.tree.specs.Calls.{guarded, newSlot, newSlots, fresh, newTree}
 use Rattle.desk.specs.Events as desk-Events
-use Rattle.desk.specs.Events.{activated, activate, editFold, hitOf, handled}
+use Rattle.desk.specs.Events.{activated, activate, hitOf, handled}
 use Rattle.desk.specs.Demand3.{step, run}
-use Rattle.tree.specs.Nodes.{wears, swaps, bitsFor, restyled, bare}
-use Rattle.desk.specs.History.{Call, History, limitFrom, start, textSaid, caretSaid, metresSaid, rectSaid, refusalOf, refresh, grown, accept, recorded}
+use Rattle.desk.specs.History.{Call, History, limitFrom, start, refusalOf, grown, accept, recorded}
 use Rattle.desk.specs.History.Call.{insert, change}
 use Rattle.desk.specs.History.Change.{makeField, solve, handle}
 use Rattle.desk.specs.declared.UiEvent.the-variants.{PointerMoved, PointerPressed, PointerReleased}
 
 -- The definitions that a run computes with: to unfold this one is to unfold them all.
 computing : Unit {0}
-unfolding stop addSat subSat gapTimes maxOf unsignedOf sumTo comesBefore rank growSum planGrowth fnvByte foldBytes lowBytes absorbed within isScalar allScalars encoded encodedAll encodedAs leadOf stepOf runFrom isUtf8 scalarsFrom scalars backOf front stepBack stepForward emptyField inRange fieldOk moved cutOut putIn stepBackOf stepForwardOf editedIn edited inserted editAnswer insertAnswer shownOf textOf withText same δ withNodes withLooks withPool withStated withFields withPass withInteraction withWaiting at put changeSlot isLive chain chainBack kidsAt order linkAfter linkLast unlinkFrom unlink freeOrder freeing aged freed layoutAt stateAt entryOf patchStyle touches inPool wear bitsOf bitsAt wearAll slotIn bearing refreshed styledAt tabledAt bared bareAll outer summed content want offset total boxes place measureAt measureAll setRects arrangeAt arrangeAll passed holds lastOf descend holdsAt hitTest fieldOf reclaimed claimed kidsWell nodeWell freeWell eachOnce linksWell linked stateWell distinct ownersWell broken guarded onLive newSlot newSlots fresh newTree insertAt tree-Calls.insert resetStates removeAt tree-Calls.remove tree-Calls.setStyle tree-Calls.setStateTable pooled tree-Calls.setPatchPool tree-Calls.makeField onField tree-Calls.fieldText tree-Calls.fieldCursor tree-Calls.solve tree-Calls.rect tree-Calls.live tree-Calls.firstChild tree-Calls.nextSibling activated activate editFold hitOf handled desk-Events.handle desk-Events.nextOutput desk-Events.absorb desk-Events.metres step wears swaps bitsFor restyled bare limitFrom start textSaid caretSaid metresSaid rectSaid refusalOf refresh grown accept recorded
+unfolding stop addSat subSat unsignedOf fnvByte foldBytes lowBytes absorbed runFrom isUtf8 emptyField inRange fieldOk same δ withLooks withStated withPass withInteraction withWaiting at isLive chain kidsAt order layoutAt stateAt entryOf inPool wear bitsOf bitsAt wearAll slotIn bearing refreshed boxes place measureAt measureAll setRects arrangeAt arrangeAll passed holds lastOf descend holdsAt hitTest kidsWell nodeWell freeWell eachOnce linksWell linked stateWell distinct ownersWell broken guarded newSlot newSlots fresh newTree tree-Calls.solve activated activate hitOf handled desk-Events.handle desk-Events.absorb step limitFrom start refusalOf grown accept recorded
 computing = tt
 
 -- The root of a tree of one node is pressed and released, twice; or the pointer leaves it before the release.
