@@ -17,7 +17,7 @@ use Rattle.tree.specs.Trees.{limitOf, withFields, withInteraction, withWaiting}
 use Rattle.tree.specs.declared.Interaction.{Interaction}
 use Rattle.tree.specs.declared.Pointer.{Pointer}
 use Rattle.tree.specs.declared.Ui.{Ui}
-use Rattle.desk.specs.Events.{activated, activate, foldedBy, changed, keyedField, editFold, editField, editFocused, releasedOn, appliedEvent, hitOf}
+use Rattle.desk.specs.Events.{activated, activate, foldedBy, hasChanged, keyedField, editFold, editField, editFocused, releasedOn, appliedEvent, hitOf}
 use Rattle.desk.specs.declared.UiEvent.{UiEvent}
 use Rattle.desk.specs.declared.UiEvent.the-variants.{PointerMoved, PointerPressed, PointerReleased, TextEntered, Edit}
 use Rattle.desk.specs.declared.Key.{Key}
@@ -55,7 +55,7 @@ edit-stays : (u : Ui) (d : NodeId) (key : Key) (m : Maybe Field) → Stays u (ed
 unfolding withInteraction withFields
 edit-stays u d key nothing = nothing-moves u
 edit-stays u d key (just f) =
-    record { slots = refl; layout = refl; pointer = fold-stays (changed f (keyedField key f)) (u .interaction) (editFold u d key) }
+    record { slots = refl; layout = refl; pointer = fold-stays (hasChanged f (keyedField key f)) (u .interaction) (editFold u d key) }
 
 key-stays : (u : Ui) (key : Key) (m : MaybeId) → Stays u (editFocused u key m)
 key-stays u key Absent = nothing-moves u

@@ -28,7 +28,7 @@ use Rattle.tree.proofs.Payloads.{AllF}
 use Rattle.tree.proofs.Ids.{live-just-where-a-node-has-it}
 use Rattle.tree.proofs.Parts.{Texts}
 use Rattle.tree.proofs.FieldParts.{retexted, edit-keeps-texts, no-edit-of-a-dead-id, no-edit-without-a-field, unchanged-at-each-node}
-use Rattle.desk.specs.Events.{keyedField, changed, editFold, foldedBy, editField, editFocused}
+use Rattle.desk.specs.Events.{keyedField, hasChanged, editFold, foldedBy, editField, editFocused}
 use Rattle.desk.specs.History.{History, withTree, idNamed, keyText, mapMaybe, typedInto}
 use Rattle.desk.specs.declared.Key.{Key}
 use Rattle.desk.specs.declared.Key.the-variants.{Char, Op}
@@ -85,7 +85,7 @@ module _ (k : ℕ) (u : Ui) (h : History) (v : Inv k u h) (key : Key) (fo : Mayb
     edits nothing q =
         same-tree (no-edit-without-a-field (u .slots) (h .tree) (u .fields) (v .nodes .texts) d (keyedField key) (keyText key) (λ i g x. isNamed fo x) is-d (mapMaybe (keyText key)) refl (λ z. refl) q)
     edits (just f) q =
-        bool-cases (changed f (keyedField key f))
+        bool-cases (hasChanged f (keyedField key f))
         (λ c. rw c (with-keyed (changeFirst (owns d) (keyedField key) (u .fields)) (foldedBy (u .interaction) (editFold u d key)) (record { pointer-is = v .input .pointer-is; pressed = v .input .pressed; focus = v .input .focus }) edited-texts))
         (λ c. rw c (with-keyed (changeFirst (owns d) (keyedField key) (u .fields)) (u .interaction) (v .input) edited-texts))
       where

@@ -88,8 +88,8 @@ keyBytes (Char c) = lowBytes 8 1 ++ lowBytes 8 c
 keyBytes (Op op) = lowBytes 8 2 ++ lowBytes 8 (opCode op)
 
 -- The edit changed something: length or caret.
-abbrev pub changed : Field → Field → Bool
-changed f g = not (same (f .len) (g .len) && same (f .cursor) (g .cursor))
+abbrev pub hasChanged : Field → Field → Bool
+hasChanged f g = not (same (f .len) (g .len) && same (f .cursor) (g .cursor))
 
 unfoldable pub editFold : Ui → NodeId → Key → ℕ
 editFold u d key = absorbed emptyHash (lowBytes 8 (u .interaction .«edit_fold») ++ idBytes d ++ keyBytes key) .state
@@ -99,7 +99,7 @@ abbrev pub editField : Ui → NodeId → Key → Maybe Field → Ui
 editField u d key nothing = u
 editField u d key (just f) =
     withInteraction (withFields u (changeFirst (owns d) (keyedField key) (u .fields)))
-    (pick (changed f (keyedField key f)) (foldedBy (u .interaction) (editFold u d key)) (u .interaction))
+    (pick (hasChanged f (keyedField key f)) (foldedBy (u .interaction) (editFold u d key)) (u .interaction))
 
 abbrev pub editFocused : Ui → Key → MaybeId → Ui
 editFocused u key Absent = u

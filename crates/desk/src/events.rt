@@ -163,7 +163,7 @@ fn release(p: Parts, limit: u32, hit: MaybeId) -> Parts
 }
 
 // The field after a key.
-fn keyed(f: Field, key: Key) -> Field
+fn keyed_field(f: Field, key: Key) -> Field
     ensures { λ r. ⌜ r ≡ keyedField key f ⌝ }
 {
     match key {
@@ -174,7 +174,7 @@ fn keyed(f: Field, key: Key) -> Field
 
 // Whether an edit changed something: length or caret.
 fn has_changed(f: Field, g: Field) -> bool
-    ensures { λ r. ⌜ r ≡ events.changed f g ⌝ }
+    ensures { λ r. ⌜ r ≡ events.hasChanged f g ⌝ }
 {
     !((f.len == g.len) & (f.cursor == g.cursor))
 }
@@ -200,7 +200,7 @@ fn edit_field(p: Parts, d: NodeId, key: Key) -> Parts
         Place::Nowhere => p,
         Place::At(i) => {
             let f = fields::field_at(own, i);
-            let g = keyed(f, key);
+            let g = keyed_field(f, key);
             let next = fields::with_field(own, i, g);
             let interaction = p.interaction;
             let after = folded(interaction, d, key, has_changed(f, g));
