@@ -78,7 +78,7 @@ module _ {k : ℕ} {u : Ui} {h : History} (v : Inv k u h) where
 
   event-as-said : (e : UiEvent) → AsSaid k h (desk.handle u e) 0 (λ _. afterChange h (handle e))
   unfolding desk.handle handled
-  event-as-said e = guarded-as-said v 0 (accepted-as-said v (handled u e) 0 _ (inv-after (refresh-agrees (event-agrees e))))
+  event-as-said e = guarded-as-said v 0 (accepted-as-said v (handled u e) 0 (λ _. afterChange h (handle e)) (inv-after (refresh-agrees (event-agrees e))))
 
 differs : {G : Type 0} → false ≡ true → G
 differs e = let z : _≡_ {A = ℕ} 0 1 = cc in absurd (omega arith)
