@@ -1,4 +1,4 @@
--- Each call is refused as the history judges, and an accepted one keeps the invariant. Assumes nothing.
+-- Each call is refused as the history says, and an accepted one keeps the invariant. Assumes nothing.
 use mathlib.Core.Path.{_≡_, refl, sym, ap, ap₂, subst, _∙_}
 use mathlib.Core.Logic.{_≢_}
 use mathlib.Core.Bool.{Bool, true, false, _&&_, _||_, not}
@@ -7,470 +7,218 @@ use Prim.Native.Nat.{ℕ, suc, _+_, _≤_, _<_, _^_}
 use native.Mathlib.Omega.{arith}
 use borrow.Author.Tests.{lt-ltb, le-ltb, ltb-false}
 use lib.Dec.{ltb}
-use lib.ListN.{length, getD, length-append, List·getD-append}
+use lib.ListN.{length, length-append, List·getD-append}
 use lib.Seq.{length-take-le}
-use Rattle.text.specs.Refusal.{Answer}
-use Rattle.text.specs.declared.refusal.Refusal.the-variants.{Broken, Missing, Full, Root, Foreign, Long}
-use Rattle.arithmetic.specs.declared.fold.StateHash.{StateHash}
-use Rattle.field.specs.Text.{Text, text}
+use Rattle.text.specs.declared.refusal.Refusal.the-variants.{Full, Root, Foreign, Long}
 use Rattle.field.specs.declared.NodeId.{NodeId}
 use Rattle.field.specs.declared.MaybeId.{MaybeId}
 use Rattle.field.specs.declared.MaybeId.the-variants.{Absent, Present}
 use Rattle.field.specs.declared.Field.{Field}
-use Rattle.tree.specs.Tests.{pick, same, δ, all, Maybe, nothing, just}
-use Rattle.tree.specs.Slots.{NIL, isLive, idAt, at}
+use Rattle.tree.specs.Tests.{same, δ, all, Maybe, nothing, just}
+use Rattle.tree.specs.Slots.{NIL, idAt, at}
 use Rattle.tree.specs.Styles.{noPatch}
 use Rattle.tree.specs.States.{inPool, sameId, styledAt, tabledAt}
 use Rattle.tree.specs.Layout.{passed, viewRect}
-use Rattle.tree.specs.Forest.{Forest, nil, node, hasBoth, find, size, mapF, anyF, cutOf}
+use Rattle.tree.specs.Forest.{Forest, nil, node, hasBoth, size, anyF, cutOf}
 use Rattle.tree.specs.Nodes.{Info, changeOf, wears, swaps, restyled, withTable, bare, placeF, hasField, bit}
 use Rattle.tree.specs.Fields.{fieldOf, firstField, vacant, reclaimed, claimed}
-use Rattle.tree.specs.Rules.{broken}
-use Rattle.tree.specs.Trees.{limitOf, waitingOf, withNodes, withLooks, withPool, withFields, withPass, withWaiting}
+use Rattle.tree.specs.Trees.{limitOf, waitingOf, withWaiting, withNodes, withLooks, withPool, withFields, withPass}
 use Rattle.tree.specs.Calls as tree
-use Rattle.tree.specs.Calls.{Outcome, gives, refuses, guarded, onLive, nobody, sameView, insertAt, removeAt, pooled, takeField, takeVacant}
+use Rattle.tree.specs.Calls.{onLive, nobody, sameView, insertAt, removeAt, pooled, takeField}
 use Rattle.tree.specs.declared.Ui.{Ui}
 use Rattle.tree.specs.declared.Style.{Style}
-use Rattle.tree.specs.declared.Rect.{Rect}
 use Rattle.tree.specs.declared.StatePatch.{StatePatch}
 use Rattle.tree.specs.declared.Viewport.{Viewport}
 use Rattle.tree.proofs.TestLaws.{bool-cases, same-yes, same-no, eq-cases, δ-other}
 use Rattle.tree.proofs.ForestLaws.{cnt, wt}
-use Rattle.tree.proofs.Payloads.{all-map, all-mapF, shape-map}
-use Rattle.tree.proofs.Ids.{root-is-live, live-just-where-a-node-has-it, live-id, free-cases, Known, find-known, find-nothing}
-use Rattle.tree.proofs.PassLaws.{placing-keeps-what-boxes-leave-alone, placing-keeps-the-shape}
-use Rattle.tree.proofs.Parts.{Links, Naming, Dress, Texts, textIn}
-use Rattle.tree.proofs.ShapeParts.{links-after, links-of-shape, naming-by-shape, texts-by-shape}
+use Rattle.tree.proofs.Ids.{root-is-live, live-id, free-cases, Known, find-known, find-nothing}
+use Rattle.tree.proofs.Parts.{Links, Dress, textIn}
 use Rattle.tree.proofs.LookParts.{style-keeps-dress, table-keeps-dress, table-dirties, pool-keeps-dress, pool-dirties, pass-keeps-dress}
-use Rattle.tree.proofs.CallParts.{an-insertion-below-the-limit-is-accepted, a-pass-that-is-due-is-made}
-use Rattle.tree.proofs.InsertParts.{insert-keeps-links, insert-keeps-dress, insert-keeps-texts, insert-keeps-the-pool, insert-keeps-the-queue, insert-keeps-naming, withChild, an-insertion-raises-one-epoch, no-node-has-the-slot-taken}
-use Rattle.tree.proofs.RemoveParts.{remove-keeps-links, remove-keeps-naming, remove-keeps-dress, remove-keeps-texts, remove-keeps-the-pool, remove-keeps-the-queue, a-removal-keeps-every-epoch}
-use Rattle.tree.proofs.NotBroken.{not-broken}
-use Rattle.tree.proofs.ReadParts.{rect-answers-the-nodes-box, field-text-answers-the-nodes-text, field-cursor-answers-the-nodes-caret, metres-of-the-field-are-the-nodes}
+use Rattle.tree.proofs.InsertParts.{insert-keeps-links, insert-keeps-dress, insert-keeps-texts, insert-keeps-naming, withChild, an-insertion-raises-one-epoch, no-node-has-the-slot-taken}
+use Rattle.tree.proofs.RemoveParts.{remove-keeps-links, remove-keeps-naming, remove-keeps-dress, remove-keeps-texts, a-removal-keeps-every-epoch}
 use Rattle.tree.proofs.FieldLaws.{a-field-is-vacant-or-every-field-is-a-live-nodes, a-node-with-a-text-has-a-field}
-use Rattle.tree.proofs.FieldParts.{texts-keep-dress, texts-keep-links, texts-keep-naming, retexted, a-field-stays, a-field-is-made}
+use Rattle.tree.proofs.FieldParts.{a-field-stays, a-field-is-made}
 use Rattle.desk.specs.Events as desk
-use Rattle.desk.specs.Events.{handled, hitOf, heard, takeOldest}
-use Rattle.desk.specs.History.{History, Call, has, judge, judgeField, accept, note, withTree, grown, keepText, idNamed, fieldCount, rootId, hears, textSaid, caretSaid, metresSaid, rectSaid}
-use Rattle.desk.specs.History.Call.{insert, remove, setStyle, setStateTable, setPatchPool, makeField, solve, handle, nextOutput, fieldText, fieldCursor, metres, rect, live, firstChild, nextSibling, absorb}
-use Rattle.desk.specs.Demand3.{Step, step, silent, telling, Machine}
+use Rattle.desk.specs.Events.{handled, hitOf, appliedEvent, takeOldest}
+use Rattle.desk.specs.History.{History, Call, Change, has, refusalOf, refusalOfField, refusalOfChange, afterChange, accept, recorded, withStyling, withTree, grown, keepText, fieldCount, rootId, afterEvent}
+use Rattle.desk.specs.History.Call.{insert, change, ask}
+use Rattle.desk.specs.History.Change.{remove, setStyle, setStateTable, setPatchPool, makeField, solve, handle, nextOutput}
+use Rattle.desk.specs.Demand3.{step, Machine, MachineChange}
 use Rattle.desk.specs.declared.UiEvent.{UiEvent}
 use Rattle.desk.specs.declared.UiEvent.the-variants.{PointerMoved, PointerPressed, PointerReleased, TextEntered, Edit}
 use Rattle.desk.specs.declared.Key.the-variants.{Char, Op}
-use Rattle.desk.proofs.Invariant.{Inv, NameIn, links-of-fields, dress-of-fields, pool-of-fields, queue-of-fields}
-use Rattle.desk.proofs.RefreshSteps.{refresh-keeps-all}
-use Rattle.desk.proofs.PointerSteps.{move-is-heard, press-is-heard, release-is-heard, waiting-by, waiting-length}
-use Rattle.desk.proofs.KeySteps.{key-is-heard}
+use Rattle.desk.proofs.Invariant.{NamedBy, OwnText, Inv, inv-after, styling-under, same-nodes-each, same-nodes-some, same-nodes-placed, with-nodes, with-styling, with-texts, with-outputs}
+use Rattle.desk.proofs.AnswerLaws.{Kept, AsSaid, accepted-as-said, refused-as-said, guarded-as-said, live-as-said, only-if, only-unless, change-kept}
+use Rattle.desk.proofs.ReadSteps.{asks}
+use Rattle.desk.proofs.RefreshSteps.{refresh-agrees}
+use Rattle.desk.proofs.PointerSteps.{move-agrees, press-agrees, release-agrees, waiting-length}
+use Rattle.desk.proofs.KeySteps.{key-agrees}
 
--- a call kept the invariant, and was refused as the history judges
-pub record Kept (k : ℕ) (u : Ui) (h : History) (c : Call) : Type 0 where
-  pub judged-so : step u c .number ≡ judge h c
-  pub goes-on : Inv (suc k) (step u c .next) (note h c (step u c .told))
+-- ---- outputs and events
 
-pub inv-after : (k : ℕ) (u : Ui) (h : History) → Inv k u h → Inv (suc k) u h
-inv-after k u h v = record {
-  links = links-after k u (h .tree) (v .links);
-  naming = v .naming;
-  dress = v .dress;
-  pool = v .pool;
-  texts = v .texts;
-  queue = v .queue;
-  root-is = v .root-is;
-  limit-is = v .limit-is;
-  pool-is = v .pool-is;
-  view-is = v .view-is;
-  dirty-is = v .dirty-is;
-  pointer-is = v .pointer-is;
-  pressed-is = v .pressed-is;
-  focus-is = v .focus-is;
-  pressed-named = v .pressed-named;
-  focus-named = v .focus-named;
-}
-
-module _ (k : ℕ) (u : Ui) (h : History) (v : Inv k u h) where
-  pub sound : broken u ≡ false
-  sound = not-broken (v .links) (v .dress) (v .pool) (v .texts) (v .queue)
-
-  guarded-is : {A : Type 0} (none : A) (o : Outcome A) → guarded u none o ≡ o
-  unfolding guarded
-  guarded-is none o = rw sound
-
-  on-live-is : {A : Type 0} (d : NodeId) (none : A) (o : Outcome A) → onLive u d none o ≡ pick (has h d) o (refuses u Missing none)
-  unfolding onLive
-  on-live-is d none o = guarded-is none _ ∙ ap (λ (b : Bool). pick b o (refuses u Missing none)) (live-just-where-a-node-has-it (v .links .rel) d)
-
-  -- refused: nothing changes
-  refused-step : (c : Call) (n : ℕ) (d : NodeId) → step u c ≡ record { next = u; number = suc n; told = d } → judge h c ≡ suc n → Kept k u h c
-  unfolding note
-  refused-step c n d e j = record {
-    judged-so = ap (λ (s : Step). s .number) e ∙ sym j;
-    goes-on = rw (e, j, same-no (suc n) 0 (λ z. omega arith)) (inv-after k u h v);
-  }
-
-  -- accepted: by the next tree and what the history makes of it
-  accepted-step : (c : Call) (u′ : Ui) (d : NodeId) → step u c ≡ record { next = u′; number = 0; told = d } → judge h c ≡ 0 → Inv (suc k) u′ (accept h c d) → Kept k u h c
-  unfolding note
-  accepted-step c u′ d e j i = record {
-    judged-so = ap (λ (s : Step). s .number) e ∙ sym j;
-    goes-on = rw (e, j, same-yes 0 0 refl) i;
-  }
-
-  -- ---- reads
-
-  picked-next : {A : Type 0} (b : Bool) (o q : Outcome A) → o .next ≡ u → q .next ≡ u → pick b o q .next ≡ u
-  picked-next true o q e f = e
-  picked-next false o q e f = f
-
-  next-of-guarded : {A : Type 0} (none : A) (o : Outcome A) → o .next ≡ u → guarded u none o .next ≡ u
-  unfolding guarded
-  next-of-guarded none o e = picked-next (broken u) (refuses u Broken none) o refl e
-
-  next-of-live : {A : Type 0} (d : NodeId) (none : A) (o : Outcome A) → o .next ≡ u → onLive u d none o .next ≡ u
-  unfolding onLive
-  next-of-live d none o e = next-of-guarded none _ (picked-next (isLive (limitOf u) (u .slots) d) o (refuses u Missing none) e refl)
-
-  next-of-field : {A : Type 0} (d : NodeId) (none : A) (read : Field → Outcome A) → ((f : Field) → read f .next ≡ u) → tree.onField u d none read .next ≡ u
-  unfolding tree.onField
-  next-of-field d none read e = next-of-live d none _ (go (fieldOf d (u .fields)))
+module _ {k : ℕ} {u : Ui} {h : History} (v : Inv k u h) where
+  output-as-said : AsSaid k h (desk.nextOutput u) 0 (λ _. h)
+  unfolding desk.nextOutput
+  output-as-said = guarded-as-said v Absent (taken (waitingOf u) refl)
     where
-      go : (m : Maybe Field) → tree.ofField u none read m .next ≡ u
-      go nothing = refl
-      go (just f) = e f
-
-  read-step : {A : Type 0} (c : Call) (o : Outcome A) → step u c ≡ silent o → o .next ≡ u → o .answer .number ≡ judge h c → accept h c nobody ≡ h → Kept k u h c
-  unfolding note
-  read-step c o e en ej ea = record {
-    judged-so = ap (λ (s : Step). s .number) e ∙ ej;
-    goes-on =
-        subst (λ (s : Step). Inv (suc k) (s .next) (pick (same (judge h c) 0) (accept h c (s .told)) h)) (sym e)
-        (subst (λ (w : Ui). Inv (suc k) w (pick (same (judge h c) 0) (accept h c nobody) h)) (sym en)
-        (bool-cases (same (judge h c) 0) (λ b. rw (b, ea) (inv-after k u h v)) (λ b. rw b (inv-after k u h v))));
-  }
-
-  text-read : (d : NodeId) → Kept k u h (fieldText d)
-  unfolding step judge accept textSaid tree.fieldText
-  text-read d = read-step (fieldText d) (tree.fieldText u d) refl (next-of-field d tree.noText _ (λ f. refl))
-      (ap (λ (a : Answer tree.Shown). a .number) (field-text-answers-the-nodes-text (v .links) sound (v .texts) d)) refl
-
-  caret-read : (d : NodeId) → Kept k u h (fieldCursor d)
-  unfolding step judge accept caretSaid tree.fieldCursor
-  caret-read d = read-step (fieldCursor d) (tree.fieldCursor u d) refl (next-of-field d 0 _ (λ f. refl))
-      (ap (λ (a : Answer ℕ). a .number) (field-cursor-answers-the-nodes-caret (v .links) sound (v .texts) d)) refl
-
-  metres-read : (d : NodeId) → Kept k u h (metres d)
-  unfolding step judge accept metresSaid desk.metres
-  metres-read d = read-step (metres d) (desk.metres u d) refl (next-of-field d 0 _ (λ f. refl))
-      (ap (λ (a : Answer ℕ). a .number) (metres-of-the-field-are-the-nodes (v .links) sound (v .texts) d)) refl
-
-  rect-read : (d : NodeId) → Kept k u h (rect d)
-  unfolding step judge accept rectSaid tree.rect
-  rect-read d = read-step (rect d) (tree.rect u d) refl (next-of-live d _ _ refl)
-      (ap (λ (a : Answer Rect). a .number) (rect-answers-the-nodes-box (v .links) sound (v .dress .boxed) d)) refl
-
-  live-read : (d : NodeId) → Kept k u h (live d)
-  unfolding step judge accept tree.live
-  live-read d = read-step (live d) (tree.live u d) refl (next-of-guarded _ _ refl) (ap (λ (o : Outcome Bool). o .answer .number) (guarded-is false _)) refl
-
-  first-read : (d : NodeId) → Kept k u h (firstChild d)
-  unfolding step judge accept tree.firstChild
-  first-read d = read-step (firstChild d) (tree.firstChild u d) refl (next-of-guarded _ _ refl) (ap (λ (o : Outcome MaybeId). o .answer .number) (guarded-is Absent _)) refl
-
-  next-read : (d : NodeId) → Kept k u h (nextSibling d)
-  unfolding step judge accept tree.nextSibling
-  next-read d =
-      let o = gives u (tree.linked u (at (u .slots) (d .index) .«next_sibling»)) in
-      read-step (nextSibling d) (tree.nextSibling u d) refl (next-of-live d _ _ refl)
-      (ap (λ (q : Outcome MaybeId). q .answer .number) (on-live-is d Absent o) ∙ bool-cases (has h d) (λ b. rw b) (λ b. rw b)) refl
-
-  absorb-read : (s : StateHash) → Kept k u h (absorb s)
-  unfolding step judge accept desk.absorb
-  absorb-read s = read-step (absorb s) (desk.absorb u s) refl (next-of-guarded _ _ refl) (ap (λ (o : Outcome ℕ). o .answer .number) (guarded-is 0 _)) refl
-
-  -- ---- the oldest output
-
-  output-taken : Kept k u h nextOutput
-  unfolding step judge accept desk.nextOutput note
-  output-taken = record {
-    judged-so = ap (λ (o : Outcome MaybeId). o .answer .number) (guarded-is Absent (takeOldest u (waitingOf u))) ∙ number-is (waitingOf u);
-    goes-on =
-        subst (λ (o : Outcome MaybeId). Inv (suc k) (o .next) (pick (same 0 0) h h)) (sym (guarded-is Absent (takeOldest u (waitingOf u))))
-        (rw (same-yes 0 0 refl) (goes (waitingOf u) refl));
-  }
-    where
-      number-is : (ds : List NodeId) → takeOldest u ds .answer .number ≡ 0
-      number-is [] = refl
-      number-is (d ∷ ds) = refl
-
-      goes : (ds : List NodeId) → waitingOf u ≡ ds → Inv (suc k) (takeOldest u ds .next) h
-      goes [] e = inv-after k u h v
-      goes (d ∷ ds) e =
-          let n = waiting-length u (v .links .rel .small) (v .queue) in
+      taken : (ds : List NodeId) → waitingOf u ≡ ds → AsSaid k h (takeOldest u ds) 0 (λ _. h)
+      taken [] e = accepted-as-said v u Absent (λ _. h) (inv-after v)
+      taken (d ∷ ds) e =
+          let n = waiting-length u (v .nodes .links .rel .small) (v .queue) in
           let f = v .queue .few in
           let l : length (d ∷ ds) ≡ u .«output_count» = ap length (sym e) ∙ n in
-          inv-after k (withWaiting u ds) h (waiting-by k u h ds v (omega arith))
+          accepted-as-said v (withWaiting u ds) (Present d) (λ _. h) (inv-after (with-outputs v ds (omega arith)))
 
-  -- ---- events
+  event-agrees : (e : UiEvent) → Inv k (appliedEvent u (hitOf u) e) (afterEvent h e)
+  event-agrees (PointerMoved x y) = move-agrees v x y
+  event-agrees PointerPressed = press-agrees v
+  event-agrees PointerReleased = release-agrees v
+  event-agrees (TextEntered ch) = key-agrees v (Char ch)
+  event-agrees (Edit op) = key-agrees v (Op op)
 
-  hears-all : (e : UiEvent) → Inv k (heard u (hitOf u) e) (hears h e)
-  hears-all (PointerMoved x y) = move-is-heard k u h v x y
-  hears-all PointerPressed = press-is-heard k u h v
-  hears-all PointerReleased = release-is-heard k u h v
-  hears-all (TextEntered ch) = key-is-heard k u h v (Char ch)
-  hears-all (Edit op) = key-is-heard k u h v (Op op)
+  event-as-said : (e : UiEvent) → AsSaid k h (desk.handle u e) 0 (λ _. afterChange h (handle e))
+  unfolding desk.handle handled
+  event-as-said e = guarded-as-said v 0 (accepted-as-said v (handled u e) 0 (λ _. afterChange h (handle e)) (inv-after (refresh-agrees (event-agrees e))))
 
-  event-handled : (e : UiEvent) → Kept k u h (handle e)
-  unfolding step judge accept desk.handle handled
-  event-handled e =
-      let w = heard u (hitOf u) e in
-      accepted-step (handle e) (handled u e) nobody (ap silent (guarded-is 0 (gives (handled u e) 0))) refl (refresh-keeps-all k w (hears h e) (hears-all e))
+differs : {G : Type 0} → false ≡ true → G
+differs e = let z : _≡_ {A = ℕ} 0 1 = cc in absurd (omega arith)
 
--- what is said of equal outcomes
-silenced : (o q : Outcome ℕ) → o ≡ q → silent o ≡ silent q
-silenced o q e = ap silent e
-
--- ---- names stay where they are
-
-pub name-stays : (named more : List NodeId) (m : Maybe ℕ) → NameIn named m → NameIn (named ++ more) m
-name-stays named more nothing n = tt
-name-stays named more (just m) n = let e = length-append named more in omega arith
-
-pub named-id-stays : (named more : List NodeId) (m : Maybe ℕ) → NameIn named m → idNamed (named ++ more) m ≡ idNamed named m
-named-id-stays named more nothing n = refl
-named-id-stays named more (just m) n = ap Present (List·getD-append named more nobody m n)
+-- what has a name keeps it
+still-named : (more : List NodeId) {named : List NodeId} {o : MaybeId} (m : Maybe ℕ) → NamedBy named o m → NamedBy (named ++ more) o m
+still-named more nothing n = record { is-id = n .is-id; is-in = tt }
+still-named more {named} (just m) n = record {
+  is-id = n .is-id ∙ ap Present (sym (List·getD-append named more nobody m (n .is-in)));
+  is-in = let e = length-append named more in let b = n .is-in in omega arith;
+}
 
 -- ---- calls that change nodes
 
-module _ (k : ℕ) (u : Ui) (h : History) (v : Inv k u h) where
+module _ {k : ℕ} {u : Ui} {h : History} (v : Inv k u h) where
   -- the root keeps its generation where its epoch does
   root-stays : (u′ : Ui) (t′ : Forest Info) → Links (suc k) u′ t′ → (x : ℕ)
       → at (u′ .slots) 0 .generation + cnt 0 t′ ≡ at (u .slots) 0 .generation + cnt 0 (h .tree) + x → x ≡ 0 → at (u′ .slots) 0 .generation ≡ 1
   root-stays u′ t′ l x e z =
-      let a = root-is-live (l .rel) in let b = root-is-live (v .links .rel) in let c = v .root-is in omega arith
+      let a = root-is-live (l .rel) in let b = root-is-live (v .nodes .links .rel) in let c = v .nodes .root-is in omega arith
 
-  insert-inv : (d : NodeId) (hd : has h d ≡ true) (f : u .free ≢ NIL) → Inv (suc k) (insertAt u (d .index)) (grown h d (idAt (u .slots) (u .free)))
+  insert-agrees : (d : NodeId) (hd : has h d ≡ true) (f : u .free ≢ NIL) → Inv (suc k) (insertAt u (d .index)) (grown h d (idAt (u .slots) (u .free)))
   unfolding insertAt withNodes grown
-  insert-inv d hd f =
+  insert-agrees d hd f =
       let m = length (h .named) in
       let new = idAt (u .slots) (u .free) in
-      let L = insert-keeps-links (v .links) d hd f m in
-      let apart : δ (u .free) 0 ≡ 0 = let c = no-node-has-the-slot-taken (v .links) d hd f m in δ-other (u .free) 0 (λ e. let r = root-is-live (v .links .rel) in let c′ : cnt 0 (h .tree) ≡ 0 = subst (λ (j : ℕ). cnt j (h .tree) ≡ 0) e c in omega arith) in
-      record {
+      let L = insert-keeps-links (v .nodes .links) d hd f m in
+      let apart : δ (u .free) 0 ≡ 0 = let c = no-node-has-the-slot-taken (v .nodes .links) d hd f m in δ-other (u .free) 0 (λ e. let r = root-is-live (v .nodes .links .rel) in let c′ : cnt 0 (h .tree) ≡ 0 = subst (λ (j : ℕ). cnt j (h .tree) ≡ 0) e c in omega arith) in
+      with-nodes v refl refl
+      (record {
         links = L;
-        naming = insert-keeps-naming (v .links) d hd f (h .named) (v .naming);
-        dress = insert-keeps-dress (v .links) d hd f m (v .dress);
-        pool = insert-keeps-the-pool (v .links) d hd f m (v .pool);
-        texts = insert-keeps-texts (v .links) d hd f m (v .texts);
-        queue = insert-keeps-the-queue (v .links) d hd f m (v .queue);
-        root-is = root-stays (insertAt u (d .index)) (withChild u d m (h .tree)) L (δ (u .free) 0) (an-insertion-raises-one-epoch (v .links) d hd f m 0) apart;
-        limit-is = v .limit-is;
-        pool-is = v .pool-is;
-        view-is = v .view-is;
-        dirty-is = refl;
-        pointer-is = v .pointer-is;
-        pressed-is = v .pressed-is ∙ sym (named-id-stays (h .named) (new ∷ []) (h .input .pressed) (v .pressed-named));
-        focus-is = v .focus-is ∙ sym (named-id-stays (h .named) (new ∷ []) (h .input .focus) (v .focus-named));
-        pressed-named = name-stays (h .named) (new ∷ []) (h .input .pressed) (v .pressed-named);
-        focus-named = name-stays (h .named) (new ∷ []) (h .input .focus) (v .focus-named);
-      }
+        naming = insert-keeps-naming (v .nodes .links) d hd f (h .named) (v .nodes .naming);
+        texts = insert-keeps-texts (v .nodes .links) d hd f m (v .nodes .texts);
+        root-is = root-stays (insertAt u (d .index)) (withChild u d m (h .tree)) L (δ (u .free) 0) (an-insertion-raises-one-epoch (v .nodes .links) d hd f m 0) apart;
+        limit-is = v .nodes .limit-is;
+      })
+      (insert-keeps-dress (v .nodes .links) d hd f m (v .styling .dress))
+      (record {
+        pointer-is = v .input .pointer-is;
+        pressed = still-named (new ∷ []) (h .input .pressed) (v .input .pressed);
+        focus = still-named (new ∷ []) (h .input .focus) (v .input .focus);
+      })
 
-  pub inserts : (d : NodeId) → Kept k u h (insert d)
-  unfolding step judge accept tree.insert
-  inserts d =
-      let room = pick (same (u .free) NIL) (refuses u Full nobody) (gives (insertAt u (d .index)) (idAt (u .slots) (u .free))) in
-      let e = on-live-is k u h v d nobody room in
-      bool-cases (has h d)
-      (λ b. free-cases (limitOf u) (u .slots) (u .free) (h .tree) (v .links .chain) (v .links .rel)
+  insert-as-said : (d : NodeId) → AsSaid k h (tree.insert u d) (refusalOf h (insert d)) (grown h d)
+  unfolding refusalOf tree.insert
+  insert-as-said d =
+      live-as-said v d nobody (λ b.
+      free-cases (limitOf u) (u .slots) (u .free) (h .tree) (v .nodes .links .chain) (v .nodes .links .rel)
       (λ f s _.
-      let n : h .limit ≤ size (h .tree) = let q = v .limit-is in omega arith in
-      refused-step k u h v (insert d) 3 nobody (ap telling (e ∙ rw (b, same-yes (u .free) NIL f))) (rw (b, le-ltb (size (h .tree)) (h .limit) n)))
+      let n : h .limit ≤ size (h .tree) = let q = v .nodes .limit-is in omega arith in
+      rw (same-yes (u .free) NIL f, le-ltb (size (h .tree)) (h .limit) n) (refused-as-said v Full nobody (grown h d)))
       (λ _ _ _ f s.
-      let n : size (h .tree) < h .limit = let q = v .limit-is in omega arith in
-      let m : size (h .tree) < limitOf u = let q = v .limit-is in omega arith in
-      accepted-step k u h v (insert d) (insertAt u (d .index)) (idAt (u .slots) (u .free)) (ap telling (an-insertion-below-the-limit-is-accepted (v .links) (sound k u h v) d b m))
-      (rw (b, lt-ltb (size (h .tree)) (h .limit) n)) (insert-inv d b f)))
-      (λ b. refused-step k u h v (insert d) 2 nobody (ap telling (e ∙ rw b)) (rw b))
+      let n : size (h .tree) < h .limit = let q = v .nodes .limit-is in omega arith in
+      rw (same-no (u .free) NIL f, lt-ltb (size (h .tree)) (h .limit) n) (accepted-as-said v (insertAt u (d .index)) (idAt (u .slots) (u .free)) (grown h d) (insert-agrees d b f))))
 
   -- ---- remove
 
-  remove-inv : k < 2 ^ 63 → (d : NodeId) (hd : has h d ≡ true) (nz : d .index ≢ 0) → Inv (suc k) (removeAt u (d .index)) (withTree h (cutOf d (h .tree)) true)
+  remove-agrees : k < 2 ^ 63 → (d : NodeId) (hd : has h d ≡ true) (nz : d .index ≢ 0) → Inv (suc k) (removeAt u (d .index)) (withTree h (cutOf d (h .tree)) true)
   unfolding removeAt withNodes
-  remove-inv small d hd nz =
-      let L = remove-keeps-links (v .links) small d hd nz in
-      record {
+  remove-agrees small d hd nz =
+      let L = remove-keeps-links (v .nodes .links) small d hd nz in
+      with-nodes v refl refl
+      (record {
         links = L;
-        naming = remove-keeps-naming (v .links) small d hd nz (h .named) (v .naming);
-        dress = remove-keeps-dress (v .links) small d hd nz (v .dress);
-        pool = remove-keeps-the-pool (v .links) small d hd nz (v .pool);
-        texts = remove-keeps-texts (v .links) small d hd nz (v .texts);
-        queue = remove-keeps-the-queue (v .links) small d hd nz (v .queue);
-        root-is = root-stays (removeAt u (d .index)) (cutOf d (h .tree)) L 0 (let q = a-removal-keeps-every-epoch (v .links) small d hd nz 0 in omega arith) refl;
-        limit-is = v .limit-is;
-        pool-is = v .pool-is;
-        view-is = v .view-is;
-        dirty-is = refl;
-        pointer-is = v .pointer-is;
-        pressed-is = v .pressed-is;
-        focus-is = v .focus-is;
-        pressed-named = v .pressed-named;
-        focus-named = v .focus-named;
-      }
+        naming = remove-keeps-naming (v .nodes .links) small d hd nz (h .named) (v .nodes .naming);
+        texts = remove-keeps-texts (v .nodes .links) small d hd nz (v .nodes .texts);
+        root-is = root-stays (removeAt u (d .index)) (cutOf d (h .tree)) L 0 (let q = a-removal-keeps-every-epoch (v .nodes .links) small d hd nz 0 in omega arith) refl;
+        limit-is = v .nodes .limit-is;
+      })
+      (remove-keeps-dress (v .nodes .links) small d hd nz (v .styling .dress)) (v .input)
 
   -- a live id is the root's just where it has the root's index
   root-by-index : (d : NodeId) → has h d ≡ true → sameId d rootId ≡ same (d .index) 0
   root-by-index d hd =
       eq-cases (d .index) 0
       (λ e s _.
-      let g : d .generation ≡ 1 = sym (live-id (v .links .rel) d hd .1) ∙ ap (λ (i : ℕ). at (u .slots) i .generation) e ∙ v .root-is in
+      let g : d .generation ≡ 1 = sym (live-id (v .nodes .links .rel) d hd .1) ∙ ap (λ (i : ℕ). at (u .slots) i .generation) e ∙ v .nodes .root-is in
       rw (s, same-yes (d .generation) 1 g))
       (λ e s _. rw s)
 
-  pub removes : k < 2 ^ 63 → (d : NodeId) → Kept k u h (remove d)
-  unfolding step judge accept tree.remove
-  removes small d =
-      let o : Outcome ℕ = pick (same (d .index) 0) (refuses u Root 0) (gives (removeAt u (d .index)) 0) in
-      let e = on-live-is k u h v d 0 o in
-      bool-cases (has h d)
-      (λ b. let q = root-by-index d b in
-      eq-cases (d .index) 0
-      (λ z s _. refused-step k u h v (remove d) 4 nobody (silenced (onLive u d 0 o) (refuses u Root 0) (e ∙ rw (b, s))) (rw (b, q, s)))
-      (λ z s _. accepted-step k u h v (remove d) (removeAt u (d .index)) nobody (silenced (onLive u d 0 o) (gives (removeAt u (d .index)) 0) (e ∙ rw (b, s))) (rw (b, q, s)) (remove-inv small d b z)))
-      (λ b. refused-step k u h v (remove d) 2 nobody (silenced (onLive u d 0 o) (refuses u Missing 0) (e ∙ rw b)) (rw b))
+  remove-as-said : k < 2 ^ 63 → (d : NodeId) → AsSaid k h (tree.remove u d) (refusalOfChange h (remove d)) (λ _. afterChange h (remove d))
+  unfolding tree.remove
+  remove-as-said small d =
+      live-as-said v d 0 (λ b.
+      only-unless v (same (d .index) 0) (not (sameId d rootId)) (ap not (root-by-index d b)) Root 0 (λ z.
+      accepted-as-said v (removeAt u (d .index)) 0 _ (remove-agrees small d b (λ e. differs (sym z ∙ same-yes (d .index) 0 e)))))
 
   -- ---- styles, tables, the pool
 
-  -- nodes changed alike keep names and texts
-  module _ (w : ℕ → ℕ → Info → Info) (names : (i g : ℕ) (x : Info) → w i g x .name ≡ x .name) (texts : (i g : ℕ) (x : Info) → w i g x .text ≡ x .text) where
-    same-names : Naming (u .slots) (mapF w (h .tree)) (h .named)
-    same-names =
-        let O : ℕ → ℕ → Info → Type 0 = λ i g x. (x .name < length (h .named)) × (getD (h .named) (x .name) nobody ≡ record { index = i; generation = g }) in
-        naming-by-shape (h .tree) (mapF w (h .tree)) (sym (shape-map w (h .tree))) (u .slots) (h .named) (v .naming)
-        (all-mapF O w (h .tree) (all-map O (λ i g x. O i g (w i g x)) (h .tree)
-        (λ i g x _ p. (rw (names i g x) (p .0), ap (λ (m : ℕ). getD (h .named) m nobody) (names i g x) ∙ p .1)) (v .naming .own)))
-
-    same-texts : Texts (u .slots) (u .fields) (mapF w (h .tree))
-    same-texts =
-        let T : ℕ → ℕ → Info → Type 0 = λ i g x. x .text ≡ textIn (fieldOf (record { index = i; generation = g }) (u .fields)) in
-        texts-by-shape (h .tree) (mapF w (h .tree)) (sym (shape-map w (h .tree))) (u .slots) (u .fields) (v .texts)
-        (all-mapF T w (h .tree) (all-map T (λ i g x. T i g (w i g x)) (h .tree) (λ i g x _ p. texts i g x ∙ p) (v .texts .texts)))
-
-    same-links : (u′ : Ui) → u′ .slots ≡ u .slots → u′ .free ≡ u .free → u′ .live ≡ u .live → limitOf u′ ≡ limitOf u → Links (suc k) u′ (mapF w (h .tree))
-    same-links u′ a b c d = links-after k u′ (mapF w (h .tree)) (links-of-shape (h .tree) (mapF w (h .tree)) (sym (shape-map w (h .tree))) k u u′ a b c d (v .links))
-
-  picked : {A : Type 0} (π : Info → A) (b : Bool) (x y : Info) → π y ≡ π x → π (pick b y x) ≡ π x
-  picked π true x y e = e
-  picked π false x y e = refl
-
-  style-inv : (d : NodeId) (hd : has h d ≡ true) (s : Style) → Inv (suc k) (styledAt u (d .index) s) (withTree h (changeOf d (restyled s) (h .tree)) true)
+  style-agrees : (d : NodeId) (hd : has h d ≡ true) (s : Style) → Inv k (styledAt u (d .index) s) (withTree h (changeOf d (restyled s) (h .tree)) true)
   unfolding styledAt withLooks restyled
-  style-inv d hd s =
-      let w : ℕ → ℕ → Info → Info = λ i g x. pick (hasBoth d i g) (restyled s x) x in
-      let en : (i g : ℕ) (x : Info) → w i g x .name ≡ x .name = λ i g x. picked (λ (y : Info). y .name) (hasBoth d i g) x (restyled s x) refl in
-      let et : (i g : ℕ) (x : Info) → w i g x .text ≡ x .text = λ i g x. picked (λ (y : Info). y .text) (hasBoth d i g) x (restyled s x) refl in
-      record {
-        links = same-links w en et (styledAt u (d .index) s) refl refl refl refl;
-        naming = same-names w en et;
-        dress = style-keeps-dress k u (h .tree) (v .links) (v .dress) d hd s;
-        pool = record { long = v .pool .long; few = v .pool .few };
-        texts = same-texts w en et;
-        queue = record { long = v .queue .long; few = v .queue .few };
-        root-is = v .root-is;
-        limit-is = v .limit-is;
-        pool-is = v .pool-is;
-        view-is = v .view-is;
-        dirty-is = refl;
-        pointer-is = v .pointer-is;
-        pressed-is = v .pressed-is;
-        focus-is = v .focus-is;
-        pressed-named = v .pressed-named;
-        focus-named = v .focus-named;
-      }
+  style-agrees d hd s =
+      with-styling v refl (same-nodes-some (hasBoth d) (restyled s) (λ x. (refl, refl)) (h .tree))
+      (styling-under refl (v .styling) (style-keeps-dress k u (h .tree) (v .nodes .links) (v .styling .dress) d hd s) refl)
 
-  pub styles : (d : NodeId) (s : Style) → Kept k u h (setStyle d s)
-  unfolding step judge accept tree.setStyle
-  styles d s =
-      let o : Outcome ℕ = gives (styledAt u (d .index) s) 0 in
-      let e = on-live-is k u h v d 0 o in
-      bool-cases (has h d)
-      (λ b. accepted-step k u h v (setStyle d s) (styledAt u (d .index) s) nobody (silenced (onLive u d 0 o) o (e ∙ rw b)) (rw b) (style-inv d b s))
-      (λ b. refused-step k u h v (setStyle d s) 2 nobody (silenced (onLive u d 0 o) (refuses u Missing 0) (e ∙ rw b)) (rw b))
+  style-as-said : (d : NodeId) (s : Style) → AsSaid k h (tree.setStyle u d s) (refusalOfChange h (setStyle d s)) (λ _. afterChange h (setStyle d s))
+  unfolding tree.setStyle
+  style-as-said d s = live-as-said v d 0 (λ b. accepted-as-said v (styledAt u (d .index) s) 0 _ (inv-after (style-agrees d b s)))
 
-  pool-length : length (h .board .pool) ≡ u .«patch_count»
-  pool-length = ap length (sym (v .pool-is)) ∙ length-take-le (u .«patch_count») (u .patches) (let a = v .pool .few in let b = v .pool .long in omega arith)
+  pool-length : length (h .styling .pool) ≡ u .«patch_count»
+  pool-length = ap length (sym (v .styling .pool-is)) ∙ length-take-le (u .«patch_count») (u .patches) (let a = v .styling .pool .few in let b = v .styling .pool .long in omega arith)
 
-  table-inv : (d : NodeId) (hd : has h d ≡ true) (table : List ℕ) → all (inPool (u .«patch_count»)) table ≡ true
-      → Inv (suc k) (tabledAt u (d .index) table) (accept h (setStateTable d table) nobody)
-  unfolding tabledAt withLooks wears accept
-  table-inv d hd table ok =
-      let pool = h .board .pool in
-      let f : Info → Info = λ x. wears pool (x .bits) (withTable table x) in
-      let w : ℕ → ℕ → Info → Info = λ i g x. pick (hasBoth d i g) (f x) x in
-      let en : (i g : ℕ) (x : Info) → w i g x .name ≡ x .name = λ i g x. picked (λ (y : Info). y .name) (hasBoth d i g) x (f x) refl in
-      let et : (i g : ℕ) (x : Info) → w i g x .text ≡ x .text = λ i g x. picked (λ (y : Info). y .text) (hasBoth d i g) x (f x) refl in
-      record {
-        links = same-links w en et (tabledAt u (d .index) table) refl refl refl refl;
-        naming = same-names w en et;
-        dress = subst (λ (q : List StatePatch). Dress (tabledAt u (d .index) table) (changeOf d (λ x. wears q (x .bits) (withTable table x)) (h .tree))) (v .pool-is)
-            (table-keeps-dress k u (h .tree) (v .links) (v .dress) d hd table ok);
-        pool = record { long = v .pool .long; few = v .pool .few };
-        texts = same-texts w en et;
-        queue = record { long = v .queue .long; few = v .queue .few };
-        root-is = v .root-is;
-        limit-is = v .limit-is;
-        pool-is = v .pool-is;
-        view-is = v .view-is;
-        dirty-is =
-            table-dirties k u (h .tree) (v .links) (v .dress) d hd table
-            ∙ ap₂ (λ (b : Bool) (q : List StatePatch). b || anyF (λ i g x. hasBoth d i g && swaps q (x .bits) (withTable table x)) (h .tree)) (v .dirty-is) (v .pool-is);
-        pointer-is = v .pointer-is;
-        pressed-is = v .pressed-is;
-        focus-is = v .focus-is;
-        pressed-named = v .pressed-named;
-        focus-named = v .focus-named;
-      }
+  table-agrees : (d : NodeId) (hd : has h d ≡ true) (table : List ℕ) → all (inPool (u .«patch_count»)) table ≡ true
+      → Inv k (tabledAt u (d .index) table) (afterChange h (setStateTable d table))
+  unfolding tabledAt withLooks wears
+  table-agrees d hd table ok =
+      with-styling v refl (same-nodes-some (hasBoth d) (λ x. wears (h .styling .pool) (x .bits) (withTable table x)) (λ x. (refl, refl)) (h .tree))
+      (styling-under refl (v .styling)
+      (subst (λ (q : List StatePatch). Dress (tabledAt u (d .index) table) (changeOf d (λ x. wears q (x .bits) (withTable table x)) (h .tree))) (v .styling .pool-is)
+      (table-keeps-dress k u (h .tree) (v .nodes .links) (v .styling .dress) d hd table ok))
+      (table-dirties k u (h .tree) (v .nodes .links) (v .styling .dress) d hd table
+      ∙ ap₂ (λ (b : Bool) (q : List StatePatch). b || anyF (λ i g x. hasBoth d i g && swaps q (x .bits) (withTable table x)) (h .tree)) (v .styling .dirty-is) (v .styling .pool-is)))
 
-  pub tables : (d : NodeId) (table : List ℕ) → Kept k u h (setStateTable d table)
-  unfolding step judge tree.setStateTable
-  tables d table =
-      let o : Outcome ℕ = pick (all (inPool (u .«patch_count»)) table) (gives (tabledAt u (d .index) table) 0) (refuses u Foreign 0) in
-      let e = on-live-is k u h v d 0 o in
-      let n = pool-length in
-      bool-cases (has h d)
-      (λ b. bool-cases (all (inPool (u .«patch_count»)) table)
-      (λ c. accepted-step k u h v (setStateTable d table) (tabledAt u (d .index) table) nobody (silenced (onLive u d 0 o) (gives (tabledAt u (d .index) table) 0) (e ∙ rw (b, c))) (rw (b, n, c)) (table-inv d b table c))
-      (λ c. refused-step k u h v (setStateTable d table) 5 nobody (silenced (onLive u d 0 o) (refuses u Foreign 0) (e ∙ rw (b, c))) (rw (b, n, c))))
-      (λ b. refused-step k u h v (setStateTable d table) 2 nobody (silenced (onLive u d 0 o) (refuses u Missing 0) (e ∙ rw b)) (rw b))
+  table-as-said : (d : NodeId) (table : List ℕ) → AsSaid k h (tree.setStateTable u d table) (refusalOfChange h (setStateTable d table)) (λ _. afterChange h (setStateTable d table))
+  unfolding tree.setStateTable
+  table-as-said d table =
+      live-as-said v d 0 (λ b.
+      only-if v (all (inPool (u .«patch_count»)) table) (all (inPool (length (h .styling .pool))) table) (ap (λ (n : ℕ). all (inPool n) table) pool-length) Foreign 0 (λ c.
+      accepted-as-said v (tabledAt u (d .index) table) 0 _ (inv-after (table-agrees d b table c))))
 
-  pool-inv : (patches : List StatePatch) (count : ℕ) → length patches ≡ 64 → count ≤ 64 → Inv (suc k) (pooled u patches count) (accept h (setPatchPool patches count) nobody)
-  unfolding pooled withPool withLooks bare accept
-  pool-inv patches count long few =
-      let w : ℕ → ℕ → Info → Info = λ i g x. bare x in
-      record {
-        links = same-links w (λ i g x. refl) (λ i g x. refl) (pooled u patches count) refl refl refl refl;
-        naming = same-names w (λ i g x. refl) (λ i g x. refl);
-        dress = pool-keeps-dress k u (h .tree) (v .links) (v .dress) patches count;
+  pool-agrees : (patches : List StatePatch) (count : ℕ) → length patches ≡ 64 → count ≤ 64 → Inv k (pooled u patches count) (afterChange h (setPatchPool patches count))
+  unfolding pooled withPool withLooks bare
+  pool-agrees patches count long few =
+      with-styling v refl (same-nodes-each (λ i g x. bare x) (λ i g x. (refl, refl)) (h .tree))
+      (record {
+        dress = pool-keeps-dress k u (h .tree) (v .nodes .links) (v .styling .dress) patches count;
         pool = record { long = long; few = few };
-        texts = same-texts w (λ i g x. refl) (λ i g x. refl);
-        queue = record { long = v .queue .long; few = v .queue .few };
-        root-is = v .root-is;
-        limit-is = v .limit-is;
         pool-is = refl;
-        view-is = v .view-is;
-        dirty-is = pool-dirties k u (h .tree) (v .links) (v .dress) patches count ∙ ap (λ (b : Bool). b || anyF (λ i g x. not (same (x .applied) noPatch)) (h .tree)) (v .dirty-is);
-        pointer-is = v .pointer-is;
-        pressed-is = v .pressed-is;
-        focus-is = v .focus-is;
-        pressed-named = v .pressed-named;
-        focus-named = v .focus-named;
-      }
+        view-is = v .styling .view-is;
+        dirty-is =
+            pool-dirties k u (h .tree) (v .nodes .links) (v .styling .dress) patches count
+            ∙ ap (λ (b : Bool). b || anyF (λ i g x. not (same (x .applied) noPatch)) (h .tree)) (v .styling .dirty-is);
+      })
 
-  pub pools : (patches : List StatePatch) (count : ℕ) → length patches ≡ 64 → Kept k u h (setPatchPool patches count)
-  unfolding step judge tree.setPatchPool
-  pools patches count long =
-      let o : Outcome ℕ = pick (ltb 64 count) (refuses u Long 0) (gives (pooled u patches count) 0) in
-      let e = guarded-is k u h v 0 o in
-      bool-cases (ltb 64 count)
-      (λ b. refused-step k u h v (setPatchPool patches count) 6 nobody (silenced (guarded u 0 o) (refuses u Long 0) (e ∙ rw b)) (rw b))
-      (λ b. accepted-step k u h v (setPatchPool patches count) (pooled u patches count) nobody (silenced (guarded u 0 o) (gives (pooled u patches count) 0) (e ∙ rw b)) (rw b) (pool-inv patches count long (ltb-false 64 count b)))
+  pool-as-said : (patches : List StatePatch) (count : ℕ) → length patches ≡ 64
+      → AsSaid k h (tree.setPatchPool u patches count) (refusalOfChange h (setPatchPool patches count)) (λ _. afterChange h (setPatchPool patches count))
+  unfolding tree.setPatchPool
+  pool-as-said patches count long =
+      guarded-as-said v 0 (only-unless v (ltb 64 count) (not (ltb 64 count)) refl Long 0 (λ b.
+      accepted-as-said v (pooled u patches count) 0 _ (inv-after (pool-agrees patches count long (ltb-false 64 count b)))))
 
   -- ---- a field
 
@@ -478,133 +226,79 @@ module _ (k : ℕ) (u : Ui) (h : History) (v : Inv k u h) where
   count-is-a-sum nil = refl
   count-is-a-sum (node i g x cs sib) = let a = count-is-a-sum cs in let b = count-is-a-sum sib in omega arith
 
-  field-inv : (d : NodeId) (hd : has h d ≡ true) (f : Field) → fieldOf d (u .fields) ≡ nothing → firstField vacant (reclaimed (limitOf u) (u .slots) (u .fields)) ≡ just f
-      → Inv (suc k) (withFields u (claimed d (reclaimed (limitOf u) (u .slots) (u .fields)))) (accept h (makeField d) nobody)
-  unfolding withFields accept
-  field-inv d hd f none some =
-      let fs = claimed d (reclaimed (limitOf u) (u .slots) (u .fields)) in
-      let b : ℕ → ℕ → Info → Bool = λ i g x. hasBoth d i g in
-      let y : Info → Maybe Text = λ x. keepText (x .text) in
-      let t′ : Forest Info = mapF (retexted b y) (h .tree) in
-      record {
-        links = links-after k (withFields u fs) t′ (links-of-fields k u t′ fs (texts-keep-links b y k u (h .tree) (v .links)));
-        naming = texts-keep-naming b y (u .slots) (h .tree) (h .named) (v .naming);
-        dress = dress-of-fields k u t′ fs (texts-keep-dress b y u (h .tree) (v .dress));
-        pool = pool-of-fields k u t′ fs (v .pool);
-        texts = a-field-is-made k u (h .tree) (v .links) (v .texts) d hd keepText refl (λ z. refl) f none some;
-        queue = queue-of-fields k u t′ fs (v .queue);
-        root-is = v .root-is;
-        limit-is = v .limit-is;
-        pool-is = v .pool-is;
-        view-is = v .view-is;
-        dirty-is = v .dirty-is;
-        pointer-is = v .pointer-is;
-        pressed-is = v .pressed-is;
-        focus-is = v .focus-is;
-        pressed-named = v .pressed-named;
-        focus-named = v .focus-named;
-      }
-
-  judge-of-field : (d : NodeId) (m : Maybe Info) → find d (h .tree) ≡ m → judge h (makeField d) ≡ judgeField h m
-  unfolding judge
-  judge-of-field d m q = ap (judgeField h) q
-
-  abbrev TextOf : ℕ → ℕ → Info → Type 0
-  TextOf i g x = x .text ≡ textIn (fieldOf (record { index = i; generation = g }) (u .fields))
+  field-agrees : (d : NodeId) (hd : has h d ≡ true) (f : Field) → fieldOf d (u .fields) ≡ nothing → firstField vacant (reclaimed (limitOf u) (u .slots) (u .fields)) ≡ just f
+      → Inv k (withFields u (claimed d (reclaimed (limitOf u) (u .slots) (u .fields)))) (afterChange h (makeField d))
+  field-agrees d hd f none some =
+      with-texts v (λ i g x. hasBoth d i g) (λ x. keepText (x .text)) _
+      (a-field-is-made k u (h .tree) (v .nodes .links) (v .nodes .texts) d hd keepText refl (λ z. refl) f none some)
 
   -- the node has a field, takes a vacant one, or there is none
-  on-a-node : (d : NodeId) (hd : has h d ≡ true) (w : Known TextOf d (h .tree)) (m : Maybe Field) → fieldOf d (u .fields) ≡ m → tree.makeField u d ≡ takeField u d m → Kept k u h (makeField d)
-  unfolding step accept
-  on-a-node d hd w (just f) q e =
-      let x = w .load in
-      let hf : hasField x ≡ true = a-node-with-a-text-has-a-field x (just f) (w .holds ∙ ap textIn q) in
-      accepted-step k u h v (makeField d) u nobody (silenced (tree.makeField u d) (gives u 0) e) (judge-of-field d (just x) (w .found) ∙ rw hf)
-      (subst (λ (t : Forest Info). Inv (suc k) u (withTree h t (h .board .dirty))) (sym (a-field-stays k u (h .tree) (v .links) (v .texts) d hd keepText refl (λ z. refl) f q)) (inv-after k u h v))
-  on-a-node d hd w nothing q e =
-      let x = w .load in
-      let hf : hasField x ≡ false = a-node-with-a-text-has-a-field x nothing (w .holds ∙ ap textIn q) in
+  on-a-node : (d : NodeId) (hd : has h d ≡ true) (w : Known (OwnText (u .fields)) d (h .tree)) (m : Maybe Field) → fieldOf d (u .fields) ≡ m
+      → AsSaid k h (takeField u d m) (refusalOfField h (just (w .load))) (λ _. afterChange h (makeField d))
+  on-a-node d hd w (just f) q =
+      let hf : hasField (w .load) ≡ true = a-node-with-a-text-has-a-field (w .load) (just f) (w .holds ∙ ap textIn q) in
+      rw hf (accepted-as-said v u 0 _
+      (subst (λ (t : Forest Info). Inv (suc k) u (withTree h t (h .styling .dirty))) (sym (a-field-stays k u (h .tree) (v .nodes .links) (v .nodes .texts) d hd keepText refl (λ z. refl) f q)) (inv-after v)))
+  on-a-node d hd w nothing q =
+      let hf : hasField (w .load) ≡ false = a-node-with-a-text-has-a-field (w .load) nothing (w .holds ∙ ap textIn q) in
       let c = count-is-a-sum (h .tree) in
-      let n = v .texts .eight in
-      a-field-is-vacant-or-every-field-is-a-live-nodes (v .links .rel) (u .fields) (v .texts .owners) (v .texts .texts)
+      let n = v .nodes .texts .eight in
+      a-field-is-vacant-or-every-field-is-a-live-nodes (v .nodes .links .rel) (u .fields) (v .nodes .texts .owners) (v .nodes .texts .texts)
       (λ z s.
       let l : 8 ≤ fieldCount (h .tree) = omega arith in
-      refused-step k u h v (makeField d) 3 nobody (silenced (tree.makeField u d) (refuses u Full 0) (e ∙ ap (takeVacant u d) z))
-      (judge-of-field d (just x) (w .found) ∙ rw (hf, le-ltb (fieldCount (h .tree)) 8 l)))
+      rw (hf, le-ltb (fieldCount (h .tree)) 8 l, z) (refused-as-said v Full 0 _))
       (λ f z s.
       let l : fieldCount (h .tree) < 8 = omega arith in
-      accepted-step k u h v (makeField d) (withFields u (claimed d (reclaimed (limitOf u) (u .slots) (u .fields)))) nobody
-      (silenced (tree.makeField u d) (gives (withFields u (claimed d (reclaimed (limitOf u) (u .slots) (u .fields)))) 0) (e ∙ ap (takeVacant u d) z))
-      (judge-of-field d (just x) (w .found) ∙ rw (hf, lt-ltb (fieldCount (h .tree)) 8 l)) (field-inv d hd f q z))
+      rw (hf, lt-ltb (fieldCount (h .tree)) 8 l, z) (accepted-as-said v (withFields u (claimed d (reclaimed (limitOf u) (u .slots) (u .fields)))) 0 _ (inv-after (field-agrees d hd f q z))))
 
-  pub fields : (d : NodeId) → Kept k u h (makeField d)
-  unfolding step tree.makeField
-  fields d =
-      let o : Outcome ℕ = takeField u d (fieldOf d (u .fields)) in
-      let e = on-live-is k u h v d 0 o in
-      bool-cases (has h d)
-      (λ b. on-a-node d b (find-known TextOf d (h .tree) (v .texts .texts) b) (fieldOf d (u .fields)) refl (e ∙ rw b))
-      (λ b. refused-step k u h v (makeField d) 2 nobody (silenced (onLive u d 0 o) (refuses u Missing 0) (e ∙ rw b)) (judge-of-field d nothing (find-nothing d (h .tree) b)))
+  field-as-said : (d : NodeId) → AsSaid k h (tree.makeField u d) (refusalOfChange h (makeField d)) (λ _. afterChange h (makeField d))
+  unfolding tree.makeField
+  field-as-said d =
+      subst (λ (n : ℕ). AsSaid k h (onLive u d 0 (takeField u d (fieldOf d (u .fields)))) n (λ _. afterChange h (makeField d)))
+      (bool-cases (has h d) (λ b. rw b) (λ b. rw (b, find-nothing d (h .tree) b)))
+      (live-as-said v d 0 (λ b.
+      let w = find-known (OwnText (u .fields)) d (h .tree) (v .nodes .texts .texts) b in
+      subst (λ (m : Maybe Info). AsSaid k h (takeField u d (fieldOf d (u .fields))) (refusalOfField h m) (λ _. afterChange h (makeField d))) (sym (w .found)) (on-a-node d b w (fieldOf d (u .fields)) refl)))
 
   -- ---- a pass
 
-  pass-inv : (w : Viewport) → Inv (suc k) (withPass u (passed (u .slots) (u .layout) w) w)
-      (record { limit = h .limit; tree = placeF (h .tree) (viewRect w ∷ []); named = h .named; board = record { pool = h .board .pool; viewport = w; dirty = false }; input = h .input })
+  pass-agrees : (w : Viewport) → Inv k (withPass u (passed (u .slots) (u .layout) w) w)
+      (withStyling h (placeF (h .tree) (viewRect w ∷ [])) (record { pool = h .styling .pool; viewport = w; dirty = false }))
   unfolding withPass
-  pass-inv w =
-      let rs = viewRect w ∷ [] in
-      let u′ = withPass u (passed (u .slots) (u .layout) w) w in
-      let t′ : Forest Info = placeF (h .tree) rs in
-      let e = placing-keeps-the-shape (h .tree) rs in
-      record {
-        links = links-after k u′ t′ (links-of-shape (h .tree) t′ e k u u′ refl refl refl refl (v .links));
-        naming = naming-by-shape (h .tree) t′ e (u .slots) (h .named) (v .naming)
-            (placing-keeps-what-boxes-leave-alone (λ i g x. (x .name < length (h .named)) × (getD (h .named) (x .name) nobody ≡ record { index = i; generation = g })) (λ i g x _ p. p) (h .tree) rs (v .naming .own));
-        dress = pass-keeps-dress k u (h .tree) (v .links) (v .dress) w;
-        pool = record { long = v .pool .long; few = v .pool .few };
-        texts = texts-by-shape (h .tree) t′ e (u .slots) (u .fields) (v .texts)
-            (placing-keeps-what-boxes-leave-alone TextOf (λ i g x _ p. p) (h .tree) rs (v .texts .texts));
-        queue = record { long = v .queue .long; few = v .queue .few };
-        root-is = v .root-is;
-        limit-is = v .limit-is;
-        pool-is = v .pool-is;
+  pass-agrees w =
+      with-styling v refl (same-nodes-placed (h .tree) (viewRect w ∷ []))
+      (record {
+        dress = pass-keeps-dress k u (h .tree) (v .nodes .links) (v .styling .dress) w;
+        pool = record { long = v .styling .pool .long; few = v .styling .pool .few };
+        pool-is = v .styling .pool-is;
         view-is = refl;
         dirty-is = refl;
-        pointer-is = v .pointer-is;
-        pressed-is = v .pressed-is;
-        focus-is = v .focus-is;
-        pressed-named = v .pressed-named;
-        focus-named = v .focus-named;
-      }
+      })
 
-  pub passes : (w : Viewport) → Kept k u h (solve w)
-  unfolding step judge accept tree.solve
-  passes w =
-      let done : Outcome ℕ = gives (withPass u (passed (u .slots) (u .layout) w) w) 0 in
-      let o : Outcome ℕ = pick (not (u .dirty) && sameView (u .«solved_for») w) (gives u 0) done in
-      let e = guarded-is k u h v 0 o in
-      let q : (not (u .dirty) && sameView (u .«solved_for») w) ≡ (not (h .board .dirty) && sameView (h .board .viewport) w) =
-      ap₂ (λ (b : Bool) (z : Viewport). not b && sameView z w) (v .dirty-is) (v .view-is) in
-      bool-cases (not (h .board .dirty) && sameView (h .board .viewport) w)
-      (λ b. accepted-step k u h v (solve w) u nobody (silenced (guarded u 0 o) (gives u 0) (e ∙ rw (q ∙ b))) refl (rw b (inv-after k u h v)))
-      (λ b. accepted-step k u h v (solve w) (withPass u (passed (u .slots) (u .layout) w) w) nobody (silenced (guarded u 0 o) done (a-pass-that-is-due-is-made (v .links) (sound k u h v) w (q ∙ b))) refl (rw b (pass-inv w)))
+  pass-as-said : (w : Viewport) → AsSaid k h (tree.solve u w) 0 (λ _. afterChange h (solve w))
+  unfolding tree.solve
+  pass-as-said w =
+      let q : (not (u .dirty) && sameView (u .«solved_for») w) ≡ (not (h .styling .dirty) && sameView (h .styling .viewport) w) =
+      ap₂ (λ (b : Bool) (z : Viewport). not b && sameView z w) (v .styling .dirty-is) (v .styling .view-is) in
+      guarded-as-said v 0
+      (bool-cases (not (h .styling .dirty) && sameView (h .styling .viewport) w)
+      (λ b. rw (q, b) (accepted-as-said v u 0 (λ _. h) (inv-after v)))
+      (λ b. rw (q, b) (accepted-as-said v (withPass u (passed (u .slots) (u .layout) w) w) 0 _ (inv-after (pass-agrees w)))))
 
   -- ---- every call
 
+  every-change : k < 2 ^ 63 → (c : Change) → MachineChange c → Kept k u h (change c)
+  every-change small (remove d) m = change-kept v (remove d) (remove-as-said small d) refl
+  every-change small (setStyle d s) m = change-kept v (setStyle d s) (style-as-said d s) refl
+  every-change small (setStateTable d table) m = change-kept v (setStateTable d table) (table-as-said d table) refl
+  every-change small (setPatchPool patches count) m = change-kept v (setPatchPool patches count) (pool-as-said patches count m) refl
+  every-change small (makeField d) m = change-kept v (makeField d) (field-as-said d) refl
+  every-change small (solve w) m = change-kept v (solve w) (pass-as-said w) refl
+  every-change small (handle e) m = change-kept v (handle e) (event-as-said v e) refl
+  every-change small nextOutput m = change-kept v nextOutput (output-as-said v) refl
+
   pub every-call : k < 2 ^ 63 → (c : Call) → Machine c → Kept k u h c
-  every-call small (insert d) m = inserts d
-  every-call small (remove d) m = removes small d
-  every-call small (setStyle d s) m = styles d s
-  every-call small (setStateTable d table) m = tables d table
-  every-call small (setPatchPool patches count) m = pools patches count m
-  every-call small (makeField d) m = fields d
-  every-call small (solve w) m = passes w
-  every-call small (handle e) m = event-handled k u h v e
-  every-call small nextOutput m = output-taken k u h v
-  every-call small (fieldText d) m = text-read k u h v d
-  every-call small (fieldCursor d) m = caret-read k u h v d
-  every-call small (metres d) m = metres-read k u h v d
-  every-call small (rect d) m = rect-read k u h v d
-  every-call small (live d) m = live-read k u h v d
-  every-call small (firstChild d) m = first-read k u h v d
-  every-call small (nextSibling d) m = next-read k u h v d
-  every-call small (absorb s) m = absorb-read k u h v s
+  unfolding step accept recorded
+  every-call small (insert d) m = let x = insert-as-said d in record { refused-so = x .number-is; goes-on = x .goes-on }
+  every-call small (change c) m = every-change small c m
+  every-call small (ask q) m = asks v q

@@ -21,35 +21,38 @@ use Rattle.field.specs.Metres.{isPoint, isDigit, behind, metresOf}
 use Rattle.field.specs.declared.NodeId.{NodeId}
 use Rattle.tree.specs.Tests.{pick, same, all, Maybe, nothing, just}
 use Rattle.tree.specs.States.{inPool, sameId}
-use Rattle.tree.specs.Forest.{Forest, nil, node, app, hasBoth, hasId, kidsOf, setKidsOf, cutOf, find, size, mapF}
+use Rattle.tree.specs.Forest.{Forest, nil, node, hasBoth, hasId, kidsOf, setKidsOf, cutOf, find, size}
 use Rattle.tree.specs.Nodes.{Info, withField, changeNamed, changeOf, wears, restyled, withTable, bare, hasField}
 use Rattle.tree.specs.Layout.{viewRect}
 use Rattle.tree.specs.Calls as tree
 use Rattle.tree.specs.Calls.{noText, nobody, sameView}
 use Rattle.tree.specs.declared.Ui.{Ui}
 use Rattle.tree.proofs.TestLaws.{bool-cases, eq-cases, same-refl}
-use Rattle.tree.proofs.Payloads.{AllF, all-map, all-both, all-mapF}
-use Rattle.tree.proofs.PassLaws.{placing-keeps-what-boxes-leave-alone}
+use Rattle.tree.proofs.Payloads.{AllF, all-map, all-app, all-both, all-mapF}
 use Rattle.tree.proofs.Ids.{Known, find-known, find-nothing}
 use Rattle.tree.proofs.FieldLaws.{one-id-is-the-other, to-have-an-id-is-to-be-named-by-it}
 use Rattle.tree.specs.Fields.{fieldOf}
 use Rattle.tree.proofs.Parts.{textIn}
 use Rattle.desk.specs.Events as desk
-use Rattle.desk.specs.History.{History, Call, has, unless, start, judge, judgeField, accept, note, grown, keepText, keyText, mapMaybe, refresh, hears, padded, ofText, ofNode, textSaid, caretSaid, metresSaid, rectSaid, fieldCount, rootId}
-use Rattle.desk.specs.History.Call.{insert, remove, setStyle, setStateTable, setPatchPool, makeField, solve, handle, nextOutput, fieldText, fieldCursor, metres, rect, live, firstChild, nextSibling, absorb}
-use Rattle.desk.specs.Demand3.{step, run, numbers, feed, given, Machines, follow, judged, Distinct}
-use Rattle.desk.specs.Keys.{typedOn, textOfKeys, Log, logKey, logEvent, beginAt, logField, logged, logs, noKeys}
+use Rattle.desk.specs.History.{History, Call, Change, Question, has, unless, start, refusalOf, refusalOfField, refusalOfChange, refusalOfQuestion, afterChange, accept, recorded, grown, keepText, keyText, mapMaybe, refresh, afterEvent, padded, ofText, ofNode, textSaid, caretSaid, metresSaid, rectSaid, fieldCount, rootId}
+use Rattle.desk.specs.History.Call.{insert, change, ask}
+use Rattle.desk.specs.History.Change.{remove, setStyle, setStateTable, setPatchPool, makeField, solve, handle, nextOutput}
+use Rattle.desk.specs.History.Question.{fieldText, fieldCursor, metres, rect, live, firstChild, nextSibling, absorb}
+use Rattle.desk.specs.Demand3.{step, run, numbers, feed, given, Machines, follow, refusals, Distinct}
+use Rattle.desk.specs.Keys.{typedOn, textOfKeys, Log, logKey, logEvent, beginAt, logField, loggedChange, logged, logs, noKeys}
 use Rattle.desk.specs.declared.UiEvent.{UiEvent}
 use Rattle.desk.specs.declared.UiEvent.the-variants.{PointerMoved, PointerPressed, PointerReleased, TextEntered, Edit}
 use Rattle.desk.specs.declared.Key.{Key}
 use Rattle.desk.specs.declared.Key.the-variants.{Char, Op}
-use Rattle.desk.proofs.Invariant.{Inv}
-use Rattle.desk.proofs.CallSteps.{Kept, every-call}
+use Rattle.desk.proofs.Invariant.{OwnName, OwnText, Inv, SameNodes, same-nodes-each, same-nodes-some, same-nodes-placed}
+use Rattle.desk.proofs.AnswerLaws.{Kept}
+use Rattle.desk.proofs.CallSteps.{every-call}
 use Rattle.desk.proofs.Demand3.{starts, demand-3}
 
 -- ---- ids
 
 pub no-id-is-given-twice : (limit : ℕ) → limit < 2 ^ 32 → (cs : List Call) → length cs < 2 ^ 63 → Machines cs → Distinct (rootId ∷ given (tree.newTree limit .next) cs)
+unfolding start
 no-id-is-given-twice limit l cs n m = demand-3 limit l cs n m .ids-differ
 
 -- ---- number 1
@@ -86,37 +89,44 @@ metres-not : (s : List ℕ) → metresOf s .number ≡ 1 → ⊥
 unfolding metresOf
 metres-not s = picked-not (eqb (length s) 0) _ _ (λ e. omega arith) (picked-not (choice.within 1 3 (front isDigit s)) _ _ (behind-not _ _) (λ e. omega arith))
 
-field-not : (h : History) (m : Maybe Info) → judgeField h m ≡ 1 → ⊥
+field-not : (h : History) (m : Maybe Info) → refusalOfField h m ≡ 1 → ⊥
 field-not h nothing = λ e. omega arith
 field-not h (just x) = unless-not (hasField x || ltb (fieldCount (h .tree)) 8) 4 0 (λ e. omega arith) (λ e. omega arith)
 
-judge-not : (h : History) (c : Call) → judge h c ≡ 1 → ⊥
-unfolding judge textSaid caretSaid metresSaid rectSaid
-judge-not h (insert d) = unless-not (has h d) 3 _ (λ e. omega arith) (unless-not (ltb (size (h .tree)) (h .limit)) 4 0 (λ e. omega arith) (λ e. omega arith))
-judge-not h (remove d) = unless-not (has h d) 3 _ (λ e. omega arith) (unless-not (not (sameId d rootId)) 5 0 (λ e. omega arith) (λ e. omega arith))
-judge-not h (setStyle d s) = unless-not (has h d) 3 0 (λ e. omega arith) (λ e. omega arith)
-judge-not h (setStateTable d table) = unless-not (has h d) 3 _ (λ e. omega arith) (unless-not (all (inPool (length (h .board .pool))) table) 6 0 (λ e. omega arith) (λ e. omega arith))
-judge-not h (setPatchPool patches count) = unless-not (not (ltb 64 count)) 7 0 (λ e. omega arith) (λ e. omega arith)
-judge-not h (makeField d) = field-not h (find d (h .tree))
-judge-not h (solve v) = λ e. omega arith
-judge-not h (handle e) = λ e. omega arith
-judge-not h nextOutput = λ e. omega arith
-judge-not h (fieldText d) = node-not _ _ (λ x. text-not _ _ (λ t e. omega arith) (x .text)) (find d (h .tree))
-judge-not h (fieldCursor d) = node-not _ _ (λ x. text-not _ _ (λ t e. omega arith) (x .text)) (find d (h .tree))
-judge-not h (metres d) = node-not _ _ (λ x. text-not _ _ (λ t. metres-not (bytesOf t)) (x .text)) (find d (h .tree))
-judge-not h (rect d) = node-not _ _ (λ x e. omega arith) (find d (h .tree))
-judge-not h (live d) = λ e. omega arith
-judge-not h (firstChild d) = λ e. omega arith
-judge-not h (nextSibling d) = unless-not (has h d) 3 0 (λ e. omega arith) (λ e. omega arith)
-judge-not h (absorb s) = λ e. omega arith
+change-is-not-1 : (h : History) (c : Change) → refusalOfChange h c ≡ 1 → ⊥
+change-is-not-1 h (remove d) = unless-not (has h d) 3 _ (λ e. omega arith) (unless-not (not (sameId d rootId)) 5 0 (λ e. omega arith) (λ e. omega arith))
+change-is-not-1 h (setStyle d s) = unless-not (has h d) 3 0 (λ e. omega arith) (λ e. omega arith)
+change-is-not-1 h (setStateTable d table) = unless-not (has h d) 3 _ (λ e. omega arith) (unless-not (all (inPool (length (h .styling .pool))) table) 6 0 (λ e. omega arith) (λ e. omega arith))
+change-is-not-1 h (setPatchPool patches count) = unless-not (not (ltb 64 count)) 7 0 (λ e. omega arith) (λ e. omega arith)
+change-is-not-1 h (makeField d) = field-not h (find d (h .tree))
+change-is-not-1 h (solve v) = λ e. omega arith
+change-is-not-1 h (handle e) = λ e. omega arith
+change-is-not-1 h nextOutput = λ e. omega arith
 
-judged-not : (h : History) (cs : List Call) (fed : List NodeId) → NeverOne (judged h cs fed)
-judged-not h [] fed = tt
-judged-not h (c ∷ cs) [] = tt
-judged-not h (c ∷ cs) (d ∷ fed) = (judge-not h c, judged-not (note h c d) cs fed)
+question-is-not-1 : (h : History) (q : Question) → refusalOfQuestion h q ≡ 1 → ⊥
+unfolding textSaid caretSaid metresSaid rectSaid
+question-is-not-1 h (fieldText d) = node-not _ _ (λ x. text-not _ _ (λ t e. omega arith) (x .text)) (find d (h .tree))
+question-is-not-1 h (fieldCursor d) = node-not _ _ (λ x. text-not _ _ (λ t e. omega arith) (x .text)) (find d (h .tree))
+question-is-not-1 h (metres d) = node-not _ _ (λ x. text-not _ _ (λ t. metres-not (bytesOf t)) (x .text)) (find d (h .tree))
+question-is-not-1 h (rect d) = node-not _ _ (λ x e. omega arith) (find d (h .tree))
+question-is-not-1 h (live d) = λ e. omega arith
+question-is-not-1 h (firstChild d) = λ e. omega arith
+question-is-not-1 h (nextSibling d) = unless-not (has h d) 3 0 (λ e. omega arith) (λ e. omega arith)
+question-is-not-1 h (absorb s) = λ e. omega arith
+
+refusal-is-not-1 : (h : History) (c : Call) → refusalOf h c ≡ 1 → ⊥
+unfolding refusalOf
+refusal-is-not-1 h (insert d) = unless-not (has h d) 3 _ (λ e. omega arith) (unless-not (ltb (size (h .tree)) (h .limit)) 4 0 (λ e. omega arith) (λ e. omega arith))
+refusal-is-not-1 h (change c) = change-is-not-1 h c
+refusal-is-not-1 h (ask q) = question-is-not-1 h q
+
+refusals-are-not-1 : (h : History) (cs : List Call) (fed : List NodeId) → NeverOne (refusals h cs fed)
+refusals-are-not-1 h [] fed = tt
+refusals-are-not-1 h (c ∷ cs) [] = tt
+refusals-are-not-1 h (c ∷ cs) (d ∷ fed) = (refusal-is-not-1 h c, refusals-are-not-1 (recorded h c d) cs fed)
 
 pub number-1-never-comes : (limit : ℕ) → limit < 2 ^ 32 → (cs : List Call) → length cs < 2 ^ 63 → Machines cs → NeverOne (numbers (tree.newTree limit .next) cs)
-number-1-never-comes limit l cs n m = subst NeverOne (sym (demand-3 limit l cs n m .refused-alike)) (judged-not (start limit) cs (feed (tree.newTree limit .next) cs))
+number-1-never-comes limit l cs n m = subst NeverOne (sym (demand-3 limit l cs n m .refused-alike)) (refusals-are-not-1 (start limit) cs (feed (tree.newTree limit .next) cs))
 
 -- ---- keys
 
@@ -133,14 +143,10 @@ no-text m t e f = let z : _≡_ {A = ℕ} 0 1 = cc in absurd (omega arith)
 
 -- by id, as the history changes its nodes
 module _ (P : ℕ → ℕ → Info → Type 0) where
-  all-app : (f t : Forest Info) → AllF P f → AllF P t → AllF P (app f t)
-  all-app nil t a b = b
-  all-app (node i g x cs sib) t a b = (a .0, a .1, all-app sib t (a .2) b)
-
   all-kids-of : (d : NodeId) (f : Forest Info) → AllF P f → AllF P (kidsOf d f)
   all-kids-of d nil a = tt
   all-kids-of d (node i g x cs sib) a =
-      all-app (pick (hasBoth d i g) cs (kidsOf d cs)) (kidsOf d sib)
+      all-app P (pick (hasBoth d i g) cs (kidsOf d cs)) (kidsOf d sib)
       (bool-cases (hasBoth d i g) (λ b. rw b (a .1)) (λ b. rw b (all-kids-of d cs (a .1)))) (all-kids-of d sib (a .2))
 
   all-set-kids-of : (d : NodeId) (k f : Forest Info) → AllF P k → AllF P f → AllF P (setKidsOf d k f)
@@ -154,19 +160,13 @@ module _ (P : ℕ → ℕ → Info → Type 0) where
       bool-cases (hasBoth d i g) (λ b. rw b (a .2)) (λ b. rw b (a .0, all-cut-of d cs (a .1), all-cut-of d sib (a .2)))
 
 -- nodes that keep name and text
-kept-by : (log : Log) (w : ℕ → ℕ → Info → Info) → ((i g : ℕ) (x : Info) → (w i g x .name ≡ x .name) × (w i g x .text ≡ x .text)) → (t : Forest Info) → AllF (ByKeys log) t → AllF (ByKeys log) (mapF w t)
-kept-by log w e t a =
-    all-mapF (ByKeys log) w t (all-map (ByKeys log) (λ i g x. ByKeys log i g (w i g x)) t
-    (λ i g x _ p y q. p y (sym (e i g x .1) ∙ q) ∙ ap (λ (m : ℕ). textOfKeys (log m)) (sym (e i g x .0))) a)
-
-picked-both : (b : Bool) (x y : Info) → (y .name ≡ x .name) × (y .text ≡ x .text) → (pick b y x .name ≡ x .name) × (pick b y x .text ≡ x .text)
-picked-both true x y e = e
-picked-both false x y e = (refl, refl)
+keys-kept : (log : Log) {t t′ : Forest Info} → SameNodes t t′ → AllF (ByKeys log) t → AllF (ByKeys log) t′
+keys-kept log r a = r .keeps (ByKeys log) (λ i g x y en et p z q. p z (sym et ∙ q) ∙ ap (λ (m : ℕ). textOfKeys (log m)) (sym en)) a
 
 -- a key
 key-logged : (log : Log) (focus : Maybe ℕ) (key : Key) (t : Forest Info) → AllF (ByKeys log) t
     → AllF (ByKeys (logKey focus key log)) (changeNamed focus (λ x. withField x (mapMaybe (keyText key) (x .text))) t)
-key-logged log nothing key t a = kept-by log _ (λ i g x. (refl, refl)) t a
+key-logged log nothing key t a = keys-kept log (same-nodes-each _ (λ i g x. (refl, refl)) t) a
 key-logged log (just m) key t a =
     all-mapF (ByKeys (logKey (just m) key log)) (λ i g x. pick (same m (x .name)) (withField x (mapMaybe (keyText key) (x .text))) x) t
     (all-map (ByKeys log) (λ i g x. ByKeys (logKey (just m) key log) i g (pick (same m (x .name)) (withField x (mapMaybe (keyText key) (x .text))) x)) t
@@ -181,7 +181,7 @@ key-logged log (just m) key t a =
         let s : keyText key t₀ ≡ y = cc in
         sym s ∙ ap (keyText key) (p t₀ e) ∙ sym (typed-on-one-more (text [] []) (log (x .name)) key)
 
-event-logged : (h : History) (e : UiEvent) (log : Log) → AllF (ByKeys log) (h .tree) → AllF (ByKeys (logEvent (h .input .focus) e log)) (hears h e .tree)
+event-logged : (h : History) (e : UiEvent) (log : Log) → AllF (ByKeys log) (h .tree) → AllF (ByKeys (logEvent (h .input .focus) e log)) (afterEvent h e .tree)
 event-logged h (PointerMoved x y) log a = a
 event-logged h PointerPressed log a = a
 event-logged h PointerReleased log a = a
@@ -190,13 +190,12 @@ event-logged h (Edit op) log a = key-logged log (h .input .focus) (Op op) (h .tr
 
 refresh-logged : (h : History) (log : Log) → AllF (ByKeys log) (h .tree) → AllF (ByKeys log) (refresh h .tree)
 unfolding refresh wears
-refresh-logged h log a = kept-by log _ (λ i g x. (refl, refl)) (h .tree) a
+refresh-logged h log a = keys-kept log (same-nodes-each _ (λ i g x. (refl, refl)) (h .tree)) a
 
 -- a field made
 module _ (k : ℕ) (u : Ui) (h : History) (v : Inv k u h) (log : Log) (a : AllF (ByKeys log) (h .tree)) (d : NodeId) where
   abbrev Own : ℕ → ℕ → Info → Type 0
-  Own i g x = ((x .name < length (h .named)) × (getD (h .named) (x .name) nobody ≡ record { index = i; generation = g }))
-      × (x .text ≡ textIn (fieldOf (record { index = i; generation = g }) (u .fields)))
+  Own i g x = OwnName (h .named) i g x × OwnText (u .fields) i g x
 
   -- of two nodes, those with the id have one name and one text, and no other has that name
   made-logged : (x₀ : Info) → find d (h .tree) ≡ just x₀ → Own (d .index) (d .generation) x₀
@@ -208,12 +207,12 @@ module _ (k : ℕ) (u : Ui) (h : History) (v : Inv k u h) (log : Log) (a : AllF 
       (λ b. rw b (the-node i g x (q .0) (q .1) (one-id-is-the-other d (record { index = i; generation = g }) (sym (to-have-an-id-is-to-be-named-by-it d i g) ∙ b)) (x₀ .text) refl))
       (λ b. rw b (another i g x (q .0) (q .1) b (x₀ .text))))
       (all-both (ByKeys log) Own (h .tree) a
-      (all-both (λ i g x. (x .name < length (h .named)) × (getD (h .named) (x .name) nobody ≡ record { index = i; generation = g })) (λ i g x. x .text ≡ textIn (fieldOf (record { index = i; generation = g }) (u .fields))) (h .tree) (v .naming .own) (v .texts .texts))))
+      (all-both (OwnName (h .named)) (OwnText (u .fields)) (h .tree) (v .nodes .naming .own) (v .nodes .texts .texts))))
     where
       the-node : (i g : ℕ) (x : Info) → ByKeys log i g x → Own i g x → d ≡ record { index = i; generation = g } → (o : Maybe Text) → x₀ .text ≡ o
           → (t : Text) → keepText (x .text) ≡ just t → t ≡ textOfKeys (beginAt o (x₀ .name) log (x .name))
       the-node i g x p own e nothing z t q =
-          let n : x .name ≡ x₀ .name = v .naming .apart (x .name) (x₀ .name) (own .0 .0) (own₀ .0 .0) (own .0 .1 ∙ sym e ∙ sym (own₀ .0 .1)) in
+          let n : x .name ≡ x₀ .name = v .nodes .naming .apart (x .name) (x₀ .name) (own .0 .0) (own₀ .0 .0) (own .0 .1 ∙ sym e ∙ sym (own₀ .0 .1)) in
           let y : x .text ≡ nothing = own .1 ∙ ap (λ (c : NodeId). textIn (fieldOf c (u .fields))) (sym e) ∙ sym (own₀ .1) ∙ z in
           let r : just (text [] []) ≡ just t = sym (ap keepText y) ∙ q in
           let s : text [] [] ≡ t = cc in
@@ -237,55 +236,52 @@ module _ (k : ℕ) (u : Ui) (h : History) (v : Inv k u h) (log : Log) (a : AllF 
 
 -- ---- a call and its keys
 
-judge-of-nothing : (h : History) (m : Maybe Info) → m ≡ nothing → judgeField h m ≡ 0 → ⊥
-judge-of-nothing h nothing e = λ q. omega arith
-judge-of-nothing h (just x) e = λ q. let z : _≡_ {A = ℕ} 0 1 = cc in omega arith
+refusal-of-no-node : (h : History) (m : Maybe Info) → m ≡ nothing → refusalOfField h m ≡ 0 → ⊥
+refusal-of-no-node h nothing e = λ q. omega arith
+refusal-of-no-node h (just x) e = λ q. let z : _≡_ {A = ℕ} 0 1 = cc in omega arith
 
 module _ (k : ℕ) (u : Ui) (h : History) (v : Inv k u h) (log : Log) (a : AllF (ByKeys log) (h .tree)) (new : NodeId) where
-  call-logged : (c : Call) → judge h c ≡ 0 → AllF (ByKeys (logged h c log)) (accept h c new .tree)
-  unfolding judge accept logged grown wears restyled bare
-  call-logged (insert d) j =
-      all-set-kids-of (ByKeys log) d _ (h .tree)
-      (all-app (ByKeys log) (kidsOf d (h .tree)) _ (all-kids-of (ByKeys log) d (h .tree) a) ((λ t q. no-text nothing t refl q), tt, tt)) a
-  call-logged (remove d) j = all-cut-of (ByKeys log) d (h .tree) a
-  call-logged (setStyle d s) j = kept-by log _ (λ i g x. picked-both (hasBoth d i g) x (restyled s x) (refl, refl)) (h .tree) a
-  call-logged (setStateTable d table) j =
-      kept-by log _ (λ i g x. picked-both (hasBoth d i g) x (wears (h .board .pool) (x .bits) (withTable table x)) (refl, refl)) (h .tree) a
-  call-logged (setPatchPool patches count) j = kept-by log (λ i g x. bare x) (λ i g x. (refl, refl)) (h .tree) a
-  call-logged (makeField d) j =
+  change-logged : (c : Change) → refusalOfChange h c ≡ 0 → AllF (ByKeys (loggedChange h c log)) (afterChange h c .tree)
+  unfolding wears restyled bare
+  change-logged (remove d) j = all-cut-of (ByKeys log) d (h .tree) a
+  change-logged (setStyle d s) j = keys-kept log (same-nodes-some (hasBoth d) (restyled s) (λ x. (refl, refl)) (h .tree)) a
+  change-logged (setStateTable d table) j =
+      keys-kept log (same-nodes-some (hasBoth d) (λ x. wears (h .styling .pool) (x .bits) (withTable table x)) (λ x. (refl, refl)) (h .tree)) a
+  change-logged (setPatchPool patches count) j = keys-kept log (same-nodes-each (λ i g x. bare x) (λ i g x. (refl, refl)) (h .tree)) a
+  change-logged (makeField d) j =
       bool-cases (hasId d (h .tree))
-      (λ b. made (find-known (Own k u h v log a d) d (h .tree) (all-both (λ i g x. (x .name < length (h .named)) × (getD (h .named) (x .name) nobody ≡ record { index = i; generation = g })) (λ i g x. x .text ≡ textIn (fieldOf (record { index = i; generation = g }) (u .fields))) (h .tree) (v .naming .own) (v .texts .texts)) b))
-      (λ b. absurd (judge-of-nothing h (find d (h .tree)) (find-nothing d (h .tree) b) j))
+      (λ b. made (find-known (Own k u h v log a d) d (h .tree) (all-both (OwnName (h .named)) (OwnText (u .fields)) (h .tree) (v .nodes .naming .own) (v .nodes .texts .texts)) b))
+      (λ b. absurd (refusal-of-no-node h (find d (h .tree)) (find-nothing d (h .tree) b) j))
     where
       made : Known (Own k u h v log a d) d (h .tree) → AllF (ByKeys (logField (find d (h .tree)) log)) (changeOf d (λ x. withField x (keepText (x .text))) (h .tree))
       made K = subst (λ (m : Maybe Info). AllF (ByKeys (logField m log)) (changeOf d (λ x. withField x (keepText (x .text))) (h .tree))) (sym (K .found)) (made-logged k u h v log a d (K .load) (K .found) (K .holds))
-  call-logged (solve w) j =
-      bool-cases (not (h .board .dirty) && sameView (h .board .viewport) w)
+  change-logged (solve w) j =
+      bool-cases (not (h .styling .dirty) && sameView (h .styling .viewport) w)
       (λ b. rw b a)
-      (λ b. rw b (placing-keeps-what-boxes-leave-alone (ByKeys log) (λ i g x r q. q) (h .tree) (viewRect w ∷ []) a))
-  call-logged (handle e) j = refresh-logged (hears h e) (logEvent (h .input .focus) e log) (event-logged h e log a)
-  call-logged nextOutput j = a
-  call-logged (fieldText d) j = a
-  call-logged (fieldCursor d) j = a
-  call-logged (metres d) j = a
-  call-logged (rect d) j = a
-  call-logged (live d) j = a
-  call-logged (firstChild d) j = a
-  call-logged (nextSibling d) j = a
-  call-logged (absorb s) j = a
+      (λ b. rw b (keys-kept log (same-nodes-placed (h .tree) (viewRect w ∷ [])) a))
+  change-logged (handle e) j = refresh-logged (afterEvent h e) (logEvent (h .input .focus) e log) (event-logged h e log a)
+  change-logged nextOutput j = a
 
-  note-logged : (c : Call) → AllF (ByKeys (pick (same (judge h c) 0) (logged h c log) log)) (note h c new .tree)
-  unfolding note
-  note-logged c = eq-cases (judge h c) 0 (λ e s _. rw s (call-logged c e)) (λ e s _. rw s a)
+  call-logged : (c : Call) → refusalOf h c ≡ 0 → AllF (ByKeys (logged h c log)) (accept h c new .tree)
+  unfolding refusalOf accept logged grown
+  call-logged (insert d) j =
+      all-set-kids-of (ByKeys log) d _ (h .tree)
+      (all-app (ByKeys log) (kidsOf d (h .tree)) _ (all-kids-of (ByKeys log) d (h .tree) a) ((λ t q. no-text nothing t refl q), tt, tt)) a
+  call-logged (change c) j = change-logged c j
+  call-logged (ask q) j = a
+
+  recorded-logged : (c : Call) → AllF (ByKeys (pick (same (refusalOf h c) 0) (logged h c log) log)) (recorded h c new .tree)
+  unfolding recorded
+  recorded-logged c = eq-cases (refusalOf h c) 0 (λ e s _. rw s (call-logged c e)) (λ e s _. rw s a)
 
 runs-logged : (k : ℕ) (u : Ui) (h : History) (cs : List Call) → Inv k u h → k + length cs < 2 ^ 63 → Machines cs → (log : Log) → AllF (ByKeys log) (h .tree)
     → AllF (ByKeys (logs h cs (feed u cs) log)) (follow h cs (feed u cs) .tree)
 runs-logged k u h [] v small m log a = a
 runs-logged k u h (c ∷ cs) v small m log a =
     let s = step u c in
-    let q : Kept k u h c = every-call k u h v (omega arith) c (m .0) in
-    runs-logged (suc k) (s .next) (note h c (s .told)) cs (q .goes-on) (omega arith) (m .1)
-    (pick (same (judge h c) 0) (logged h c log) log) (note-logged k u h v log a (s .told) c)
+    let q : Kept k u h c = every-call v (omega arith) c (m .0) in
+    runs-logged (suc k) (s .next) (recorded h c (s .told)) cs (q .goes-on) (omega arith) (m .1)
+    (pick (same (refusalOf h c) 0) (logged h c log) log) (recorded-logged k u h v log a (s .told) c)
 
 -- ---- what a field says
 

@@ -15,16 +15,17 @@ use Rattle.tree.specs.declared.Ui.{Ui}
 use Rattle.tree.proofs.TestLaws.{bool-cases, eq-cases}
 use Rattle.tree.proofs.Starts.{start-root-generation}
 use Rattle.tree.proofs.StartParts.{start-has-links, start-has-names, start-has-dress, start-has-a-pool, start-has-texts, start-has-a-queue}
-use Rattle.tree.proofs.ReadParts.{live-answers-whether-a-node-has-it, children-by-the-links-are-the-nodes, field-text-answers-the-nodes-text, field-cursor-answers-the-nodes-caret, metres-of-the-field-are-the-nodes, rect-answers-the-nodes-box}
-use Rattle.desk.specs.Events as desk
-use Rattle.desk.specs.History.{History, Call, limitFrom, start, judge, accept, note, grown, refresh, hears, textSaid, caretSaid, metresSaid, rectSaid, rootId}
-use Rattle.desk.specs.History.Call.{insert, remove, setStyle, setStateTable, setPatchPool, makeField, solve, handle, nextOutput, fieldText, fieldCursor, metres, rect, live, firstChild, nextSibling, absorb}
-use Rattle.desk.specs.Demand3.{step, run, numbers, feed, isInsert, given, Machines, follow, judged, Agree, Others, Distinct, Demand3}
+use Rattle.desk.specs.History.{History, Call, Change, limitFrom, start, refusalOf, afterChange, accept, recorded, grown, refresh, afterEvent}
+use Rattle.desk.specs.History.Call.{insert, change, ask}
+use Rattle.desk.specs.History.Change.{remove, setStyle, setStateTable, setPatchPool, makeField, solve, handle, nextOutput}
+use Rattle.desk.specs.Demand3.{step, run, numbers, feed, idGiven, given, Machines, follow, refusals, Others, Distinct, HoldsFrom, Demand3}
 use Rattle.desk.specs.declared.UiEvent.{UiEvent}
 use Rattle.desk.specs.declared.UiEvent.the-variants.{PointerMoved, PointerPressed, PointerReleased, TextEntered, Edit}
 use Rattle.desk.proofs.Invariant.{Inv}
 use Rattle.desk.proofs.NameLaws.{id-cases}
-use Rattle.desk.proofs.CallSteps.{Kept, sound, every-call}
+use Rattle.desk.proofs.AnswerLaws.{Kept}
+use Rattle.desk.proofs.ReadSteps.{agrees}
+use Rattle.desk.proofs.CallSteps.{every-call}
 
 -- ---- the start
 
@@ -50,128 +51,82 @@ starts-fresh limit =
     let n = limitFrom limit in
     let r = limit-in-range limit in
     record {
-      links = start-has-links n (r .0) (r .1);
-      naming = start-has-names n (r .0) (r .1);
-      dress = start-has-dress n (r .0) (r .1);
-      pool = start-has-a-pool n (r .0) (r .1);
-      texts = start-has-texts n (r .0) (r .1);
+      nodes = record {
+        links = start-has-links n (r .0) (r .1);
+        naming = start-has-names n (r .0) (r .1);
+        texts = start-has-texts n (r .0) (r .1);
+        root-is = start-root-generation n;
+        limit-is = refl;
+      };
+      styling = record { dress = start-has-dress n (r .0) (r .1); pool = start-has-a-pool n (r .0) (r .1); pool-is = refl; view-is = refl; dirty-is = refl };
+      input = record { pointer-is = refl; pressed = record { is-id = refl; is-in = tt }; focus = record { is-id = refl; is-in = tt } };
       queue = start-has-a-queue n (r .0) (r .1);
-      root-is = start-root-generation n;
-      limit-is = refl;
-      pool-is = refl;
-      view-is = refl;
-      dirty-is = refl;
-      pointer-is = refl;
-      pressed-is = refl;
-      focus-is = refl;
-      pressed-named = tt;
-      focus-named = tt;
     }
 
 pub starts : (limit : ℕ) → Inv 0 (tree.newTree limit .next) (start limit)
 starts limit = subst (λ (u : Ui). Inv 0 u (start limit)) (sym (new-is-fresh limit)) (starts-fresh limit)
 
--- ---- what the invariant gives
-
-pub agrees : (k : ℕ) (u : Ui) (h : History) → Inv k u h → Agree u h
-unfolding textSaid caretSaid metresSaid rectSaid desk.metres
-agrees k u h v =
-    let b = sound k u h v in
-    record {
-      live-is = live-answers-whether-a-node-has-it (v .links) b;
-      children-are = children-by-the-links-are-the-nodes (v .links) b;
-      text-is = field-text-answers-the-nodes-text (v .links) b (v .texts);
-      caret-is = field-cursor-answers-the-nodes-caret (v .links) b (v .texts);
-      metres-are = metres-of-the-field-are-the-nodes (v .links) b (v .texts);
-      rect-is = rect-answers-the-nodes-box (v .links) b (v .dress .boxed);
-      focus-is = v .focus-is;
-    }
-
 -- ---- the names that were made are the ids that were given
 
-heard-named : (h : History) (e : UiEvent) → hears h e .named ≡ h .named
-heard-named h (PointerMoved x y) = refl
-heard-named h PointerPressed = refl
-heard-named h PointerReleased = refl
-heard-named h (TextEntered ch) = refl
-heard-named h (Edit op) = refl
+event-keeps-names : (h : History) (e : UiEvent) → afterEvent h e .named ≡ h .named
+event-keeps-names h (PointerMoved x y) = refl
+event-keeps-names h PointerPressed = refl
+event-keeps-names h PointerReleased = refl
+event-keeps-names h (TextEntered ch) = refl
+event-keeps-names h (Edit op) = refl
 
-refreshed-named : (h : History) → refresh h .named ≡ h .named
+refresh-keeps-names : (h : History) → refresh h .named ≡ h .named
 unfolding refresh
-refreshed-named h = refl
+refresh-keeps-names h = refl
 
--- the ids that a call adds
-abbrev added : Call → ℕ → NodeId → List NodeId
-added c n d = pick (isInsert c) (pick (same n 0) (d ∷ []) []) []
+change-keeps-names : (h : History) (c : Change) → afterChange h c .named ≡ h .named
+change-keeps-names h (remove d) = refl
+change-keeps-names h (setStyle d s) = refl
+change-keeps-names h (setStateTable d table) = refl
+change-keeps-names h (setPatchPool patches count) = refl
+change-keeps-names h (makeField d) = refl
+change-keeps-names h (solve w) = bool-cases (not (h .styling .dirty) && sameView (h .styling .viewport) w) (λ b. rw b) (λ b. rw b)
+change-keeps-names h (handle e) = refresh-keeps-names (afterEvent h e) ∙ event-keeps-names h e
+change-keeps-names h nextOutput = refl
 
-accepted-named : (h : History) (c : Call) (d : NodeId) → accept h c d .named ≡ h .named ++ pick (isInsert c) (d ∷ []) []
-unfolding accept grown
-accepted-named h (insert e) d = refl
-accepted-named h (remove e) d = sym (append-nil (h .named))
-accepted-named h (setStyle e s) d = sym (append-nil (h .named))
-accepted-named h (setStateTable e table) d = sym (append-nil (h .named))
-accepted-named h (setPatchPool patches count) d = sym (append-nil (h .named))
-accepted-named h (makeField e) d = sym (append-nil (h .named))
-accepted-named h (solve w) d =
-    bool-cases (not (h .board .dirty) && sameView (h .board .viewport) w) (λ b. rw b (sym (append-nil (h .named)))) (λ b. rw b (sym (append-nil (h .named))))
-accepted-named h (handle e) d = refreshed-named (hears h e) ∙ heard-named h e ∙ sym (append-nil (h .named))
-accepted-named h nextOutput d = sym (append-nil (h .named))
-accepted-named h (fieldText e) d = sym (append-nil (h .named))
-accepted-named h (fieldCursor e) d = sym (append-nil (h .named))
-accepted-named h (metres e) d = sym (append-nil (h .named))
-accepted-named h (rect e) d = sym (append-nil (h .named))
-accepted-named h (live e) d = sym (append-nil (h .named))
-accepted-named h (firstChild e) d = sym (append-nil (h .named))
-accepted-named h (nextSibling e) d = sym (append-nil (h .named))
-accepted-named h (absorb s) d = sym (append-nil (h .named))
-
-pick-none : (b : Bool) → pick {A = List NodeId} b [] [] ≡ []
-pick-none true = refl
-pick-none false = refl
-
-noted-named : (h : History) (c : Call) (d : NodeId) → note h c d .named ≡ h .named ++ added c (judge h c) d
-unfolding note
-noted-named h c d =
-    bool-cases (same (judge h c) 0)
-    (λ b. rw b (accepted-named h c d))
-    (λ b. rw (b, pick-none (isInsert c)) (sym (append-nil (h .named))))
-
-given-by : (u : Ui) (c : Call) (cs : List Call) → given u (c ∷ cs) ≡ added c (step u c .number) (step u c .told) ++ given (step u c .next) cs
-given-by u c cs = go (isInsert c) (same (step u c .number) 0)
+-- a call that was refused alike adds the id that it gave
+recorded-names : (u : Ui) (h : History) (c : Call) → step u c .number ≡ refusalOf h c → recorded h c (step u c .told) .named ≡ h .named ++ idGiven c (step u c)
+unfolding recorded accept grown
+recorded-names u h (insert d) e = rw (← e) (go (same (step u (insert d) .number) 0))
   where
-    rest : List NodeId
-    rest = given (step u c .next) cs
-
-    go : (b e : Bool) → pick b (pick e (step u c .told ∷ rest) rest) rest ≡ pick b (pick e (step u c .told ∷ []) []) [] ++ rest
-    go true true = refl
-    go true false = refl
-    go false e = refl
+    go : (b : Bool) → pick b (grown h d (step u (insert d) .told)) h .named ≡ h .named ++ pick b (step u (insert d) .told ∷ []) []
+    go true = refl
+    go false = sym (append-nil (h .named))
+recorded-names u h (change c) e =
+    bool-cases (same (refusalOf h (change c)) 0) (λ b. rw b (change-keeps-names h c ∙ sym (append-nil (h .named)))) (λ b. rw b (sym (append-nil (h .named))))
+recorded-names u h (ask q) e =
+    bool-cases (same (refusalOf h (ask q)) 0) (λ b. rw b (sym (append-nil (h .named)))) (λ b. rw b (sym (append-nil (h .named))))
 
 -- ---- the list
 
-pub record Runs (k : ℕ) (u : Ui) (h : History) (cs : List Call) : Type 0 where
-  pub alike : numbers u cs ≡ judged h cs (feed u cs)
+-- a list of calls: refused alike, related at its end, and each id given has a name
+pub record Followed (k : ℕ) (u : Ui) (h : History) (cs : List Call) : Type 0 where
+  pub alike : numbers u cs ≡ refusals h cs (feed u cs)
   pub ends : Inv (k + length cs) (run u cs) (follow h cs (feed u cs))
   pub names : follow h cs (feed u cs) .named ≡ h .named ++ given u cs
 
-pub runs : (k : ℕ) (u : Ui) (h : History) (cs : List Call) → Inv k u h → k + length cs < 2 ^ 63 → Machines cs → Runs k u h cs
-runs k u h [] v small m = record {
+pub follows : (k : ℕ) (u : Ui) (h : History) (cs : List Call) → Inv k u h → k + length cs < 2 ^ 63 → Machines cs → Followed k u h cs
+follows k u h [] v small m = record {
   alike = refl;
   ends = let e : k + 0 ≡ k = omega arith in rw e v;
   names = sym (append-nil (h .named));
 }
-runs k u h (c ∷ cs) v small m =
+follows k u h (c ∷ cs) v small m =
     let s = step u c in
-    let q : Kept k u h c = every-call k u h v (omega arith) c (m .0) in
-    let r : Runs (suc k) (s .next) (note h c (s .told)) cs = runs (suc k) (s .next) (note h c (s .told)) cs (q .goes-on) (omega arith) (m .1) in
+    let q : Kept k u h c = every-call v (omega arith) c (m .0) in
+    let r : Followed (suc k) (s .next) (recorded h c (s .told)) cs = follows (suc k) (s .next) (recorded h c (s .told)) cs (q .goes-on) (omega arith) (m .1) in
     record {
-      alike = ap₂ (λ (n : ℕ) (ns : List ℕ). n ∷ ns) (q .judged-so) (r .alike);
+      alike = ap₂ (λ (n : ℕ) (ns : List ℕ). n ∷ ns) (q .refused-so) (r .alike);
       ends = let e : k + suc (length cs) ≡ suc k + length cs = omega arith in rw e (r .ends);
       names =
           r .names
-          ∙ ap (λ (l : List NodeId). l ++ given (s .next) cs) (noted-named h c (s .told) ∙ ap (λ (n : ℕ). h .named ++ added c n (s .told)) (sym (q .judged-so)))
-          ∙ append-assoc (h .named) (added c (s .number) (s .told)) (given (s .next) cs)
-          ∙ ap (λ (l : List NodeId). h .named ++ l) (sym (given-by u c cs));
+          ∙ ap (λ (l : List NodeId). l ++ given (s .next) cs) (recorded-names u h c (q .refused-so))
+          ∙ append-assoc (h .named) (idGiven c s) (given (s .next) cs);
     }
 
 -- ---- no id was given twice
@@ -188,14 +143,14 @@ apart-is-distinct (d ∷ ds) h =
 
 -- ---- the theorem
 
-pub demand-3 : Demand3
-unfolding start
-demand-3 limit l cs n m =
-    let u = tree.newTree limit .next in
-    let h = start limit in
-    let r : Runs 0 u h cs = runs 0 u h cs (starts limit) (omega arith) m in
+pub holds-from : HoldsFrom Inv
+holds-from k u h v cs small m =
+    let r : Followed k u h cs = follows k u h cs v small m in
     record {
       refused-alike = r .alike;
-      ids-differ = apart-is-distinct (rootId ∷ given u cs) (subst (λ (ds : List NodeId). (i j : ℕ) → i < length ds → j < length ds → getD ds i nobody ≡ getD ds j nobody → i ≡ j) (r .names) (r .ends .naming .apart));
-      agree = agrees (0 + length cs) (run u cs) (follow h cs (feed u cs)) (r .ends);
+      ids-differ = apart-is-distinct (h .named ++ given u cs) (subst (λ (ds : List NodeId). (i j : ℕ) → i < length ds → j < length ds → getD ds i nobody ≡ getD ds j nobody → i ≡ j) (r .names) (r .ends .nodes .naming .apart));
+      agree = agrees (r .ends);
     }
+
+pub demand-3 : Demand3
+demand-3 limit l cs n m = holds-from 0 (tree.newTree limit .next) (start limit) (starts limit) cs (omega arith) m

@@ -27,12 +27,12 @@ use Rattle.tree.proofs.TestLaws.{bool-cases}
 use Rattle.tree.proofs.Payloads.{AllF}
 use Rattle.tree.proofs.Ids.{live-just-where-a-node-has-it}
 use Rattle.tree.proofs.Parts.{Texts}
-use Rattle.tree.proofs.FieldParts.{retexted, texts-keep-dress, texts-keep-links, texts-keep-naming, edit-keeps-texts, no-edit-of-a-dead-id, no-edit-without-a-field, unchanged-at-each-node}
-use Rattle.desk.specs.Events.{keyedField, changed, editFold, foldedBy, editField, editFocused}
+use Rattle.tree.proofs.FieldParts.{retexted, edit-keeps-texts, no-edit-of-a-dead-id, no-edit-without-a-field, unchanged-at-each-node}
+use Rattle.desk.specs.Events.{keyedField, hasChanged, editFold, foldedBy, editField, editFocused}
 use Rattle.desk.specs.History.{History, withTree, idNamed, keyText, mapMaybe, typedInto}
 use Rattle.desk.specs.declared.Key.{Key}
 use Rattle.desk.specs.declared.Key.the-variants.{Char, Op}
-use Rattle.desk.proofs.Invariant.{Inv, NameIn, links-of-interaction, dress-of-interaction, pool-of-interaction, queue-of-interaction, links-of-fields, dress-of-fields, pool-of-fields, queue-of-fields}
+use Rattle.desk.proofs.Invariant.{NameIn, InputAgrees, Inv, with-input, with-texts}
 use Rattle.desk.proofs.NameLaws.{ids-say-the-names}
 
 -- ---- what a key does to a field
@@ -62,61 +62,45 @@ module _ (k : ℕ) (u : Ui) (h : History) (v : Inv k u h) (key : Key) (fo : Mayb
   abbrev named-text : Forest Info
   named-text = mapF (retexted (λ i g x. isNamed fo x) (λ x. mapMaybe (keyText key) (x .text))) (h .tree)
 
+  abbrev after-key : History
+  after-key = withTree h named-text (h .styling .dirty)
+
   -- the same tree but for fields and the fold of edits
-  with-texts : (fs : List Field) (a : Interaction) → a .pointer ≡ u .interaction .pointer → a .pressed ≡ u .interaction .pressed → a .focus ≡ u .interaction .focus
-      → Texts (u .slots) fs named-text → Inv k (withInteraction (withFields u fs) a) (withTree h named-text (h .board .dirty))
-  unfolding withInteraction withFields
-  with-texts fs a ep es ef x = record {
-    links = links-of-interaction k (withFields u fs) named-text a (links-of-fields k u named-text fs (texts-keep-links (λ i g x. isNamed fo x) (λ x. mapMaybe (keyText key) (x .text)) k u (h .tree) (v .links)));
-    naming = texts-keep-naming (λ i g x. isNamed fo x) (λ x. mapMaybe (keyText key) (x .text)) (u .slots) (h .tree) (h .named) (v .naming);
-    dress = dress-of-interaction k (withFields u fs) named-text a (dress-of-fields k u named-text fs (texts-keep-dress (λ i g x. isNamed fo x) (λ x. mapMaybe (keyText key) (x .text)) u (h .tree) (v .dress)));
-    pool = pool-of-interaction k (withFields u fs) named-text a (pool-of-fields k u named-text fs (v .pool));
-    texts = x;
-    queue = queue-of-interaction k (withFields u fs) named-text a (queue-of-fields k u named-text fs (v .queue));
-    root-is = v .root-is;
-    limit-is = v .limit-is;
-    pool-is = v .pool-is;
-    view-is = v .view-is;
-    dirty-is = v .dirty-is;
-    pointer-is = ep ∙ v .pointer-is;
-    pressed-is = es ∙ v .pressed-is;
-    focus-is = ef ∙ v .focus-is;
-    pressed-named = v .pressed-named;
-    focus-named = v .focus-named;
-  }
+  with-keyed : (fs : List Field) (a : Interaction) → InputAgrees a (h .named) (h .input) → Texts (u .slots) fs named-text → Inv k (withInteraction (withFields u fs) a) after-key
+  with-keyed fs a i x = with-input (with-texts v (λ i g x. isNamed fo x) (λ x. mapMaybe (keyText key) (x .text)) fs x) a (h .input) i
 
   -- the tree as it was
-  same-tree : Texts (u .slots) (u .fields) named-text → Inv k u (withTree h named-text (h .board .dirty))
+  same-tree : Texts (u .slots) (u .fields) named-text → Inv k u after-key
   unfolding withInteraction withFields
-  same-tree x = with-texts (u .fields) (u .interaction) refl refl refl x
+  same-tree x = with-keyed (u .fields) (u .interaction) (v .input) x
 
   module _ (m : ℕ) (b : m < length (h .named)) (e : fo ≡ just m) where
     abbrev d : NodeId
     d = getD (h .named) m nobody
 
     is-d : AllF (λ i g x. sameId d (record { index = i; generation = g }) ≡ isNamed fo x) (h .tree)
-    is-d = rw e (ids-say-the-names (u .slots) (h .tree) (h .named) (v .naming) (just m) b)
+    is-d = rw e (ids-say-the-names (u .slots) (h .tree) (h .named) (v .nodes .naming) (Present d) (just m) (record { is-id = refl; is-in = b }))
 
-    edits : (mf : Maybe Field) → fieldOf d (u .fields) ≡ mf → Inv k (editField u d key mf) (withTree h named-text (h .board .dirty))
+    edits : (mf : Maybe Field) → fieldOf d (u .fields) ≡ mf → Inv k (editField u d key mf) after-key
     edits nothing q =
-        same-tree (no-edit-without-a-field (u .slots) (h .tree) (u .fields) (v .texts) d (keyedField key) (keyText key) (λ i g x. isNamed fo x) is-d (mapMaybe (keyText key)) refl (λ z. refl) q)
+        same-tree (no-edit-without-a-field (u .slots) (h .tree) (u .fields) (v .nodes .texts) d (keyedField key) (keyText key) (λ i g x. isNamed fo x) is-d (mapMaybe (keyText key)) refl (λ z. refl) q)
     edits (just f) q =
-        bool-cases (changed f (keyedField key f))
-        (λ c. rw c (with-texts (changeFirst (owns d) (keyedField key) (u .fields)) (foldedBy (u .interaction) (editFold u d key)) refl refl refl edited-texts))
-        (λ c. rw c (with-texts (changeFirst (owns d) (keyedField key) (u .fields)) (u .interaction) refl refl refl edited-texts))
+        bool-cases (hasChanged f (keyedField key f))
+        (λ c. rw c (with-keyed (changeFirst (owns d) (keyedField key) (u .fields)) (foldedBy (u .interaction) (editFold u d key)) (record { pointer-is = v .input .pointer-is; pressed = v .input .pressed; focus = v .input .focus }) edited-texts))
+        (λ c. rw c (with-keyed (changeFirst (owns d) (keyedField key) (u .fields)) (u .interaction) (v .input) edited-texts))
       where
         edited-texts : Texts (u .slots) (changeFirst (owns d) (keyedField key) (u .fields)) named-text
         edited-texts =
-            edit-keeps-texts (u .slots) (h .tree) (u .fields) (v .texts) d (keyedField key) (keyText key) (λ i g x. isNamed fo x) is-d (mapMaybe (keyText key)) refl (λ z. refl)
+            edit-keeps-texts (u .slots) (h .tree) (u .fields) (v .nodes .texts) d (keyedField key) (keyText key) (λ i g x. isNamed fo x) is-d (mapMaybe (keyText key)) refl (λ z. refl)
             (key-keeps-owner key) (key-keeps-rules key)
 
-    into-the-node : Inv k (editFocused u key (Present d)) (withTree h named-text (h .board .dirty))
+    into-the-node : Inv k (editFocused u key (Present d)) after-key
     into-the-node =
-        let l = live-just-where-a-node-has-it (v .links .rel) d in
+        let l = live-just-where-a-node-has-it (v .nodes .links .rel) d in
         bool-cases (hasId d (h .tree))
         (λ c. rw (l ∙ c) (edits (fieldOf d (u .fields)) refl))
         (λ c. rw (l ∙ c)
-        (same-tree (no-edit-of-a-dead-id (u .slots) (h .tree) (u .fields) (v .texts) d (keyedField key) (keyText key) (λ i g x. isNamed fo x) is-d (mapMaybe (keyText key)) refl (λ z. refl) c)))
+        (same-tree (no-edit-of-a-dead-id (u .slots) (h .tree) (u .fields) (v .nodes .texts) d (keyedField key) (keyText key) (λ i g x. isNamed fo x) is-d (mapMaybe (keyText key)) refl (λ z. refl) c)))
 
 -- ---- a key
 
@@ -125,13 +109,13 @@ pub of-all-nodes : (P : ℕ → ℕ → Info → Type 0) → ((i g : ℕ) (x : I
 of-all-nodes P h nil = tt
 of-all-nodes P h (node i g x cs sib) = (h i g x, of-all-nodes P h cs, of-all-nodes P h sib)
 
-module _ (k : ℕ) (u : Ui) (h : History) (v : Inv k u h) (key : Key) where
-  key-into : (fo : Maybe ℕ) → h .input .focus ≡ fo → NameIn (h .named) fo → Inv k (editFocused u key (idNamed (h .named) fo)) (withTree h (changeNamed fo (λ x. withField x (mapMaybe (keyText key) (x .text))) (h .tree)) (h .board .dirty))
-  key-into nothing e n =
-      subst (λ (t : Forest Info). Inv k u (withTree h t (h .board .dirty)))
+module _ {k : ℕ} {u : Ui} {h : History} (v : Inv k u h) (key : Key) where
+  key-into : (fo : Maybe ℕ) → NameIn (h .named) fo → Inv k (editFocused u key (idNamed (h .named) fo)) (withTree h (changeNamed fo (λ x. withField x (mapMaybe (keyText key) (x .text))) (h .tree)) (h .styling .dirty))
+  key-into nothing n =
+      subst (λ (t : Forest Info). Inv k u (withTree h t (h .styling .dirty)))
       (sym (unchanged-at-each-node (λ i g x. pick (isNamed nothing x) (withField x (mapMaybe (keyText key) (x .text))) x) (h .tree) (of-all-nodes _ (λ i g x. refl) (h .tree)))) v
-  key-into (just m) e n = into-the-node k u h v key (just m) m n refl
+  key-into (just m) n = into-the-node k u h v key (just m) m n refl
 
-  pub key-is-heard : Inv k (editFocused u key (u .interaction .focus)) (typedInto h key)
-  key-is-heard =
-      subst (λ (o : MaybeId). Inv k (editFocused u key o) (typedInto h key)) (sym (v .focus-is)) (key-into (h .input .focus) refl (v .focus-named))
+  pub key-agrees : Inv k (editFocused u key (u .interaction .focus)) (typedInto h key)
+  key-agrees =
+      subst (λ (o : MaybeId). Inv k (editFocused u key o) (typedInto h key)) (sym (v .input .focus .is-id)) (key-into (h .input .focus) (v .input .focus .is-in))

@@ -1,5 +1,5 @@
 -- An id means a node just where the name does: every node has the id at the place of its name, and no two such ids are equal. Assumes nothing.
-use mathlib.Core.Path.{_≡_, refl, sym, ap, ap₂, subst, _∙_}
+use mathlib.Core.Path.{_≡_, refl, sym, ap, subst, _∙_}
 use mathlib.Core.Bool.{true, false}
 use mathlib.Core.List.{List}
 use Prim.Native.Nat.{ℕ, _+_, _<_}
@@ -24,7 +24,7 @@ use Rattle.tree.proofs.HitLaws.{Names}
 use Rattle.tree.proofs.HitLaws.Names.{neither, one-node}
 use Rattle.tree.proofs.Parts.{Below, Links, Naming}
 use Rattle.desk.specs.History.{idNamed}
-use Rattle.desk.proofs.Invariant.{NameIn}
+use Rattle.desk.proofs.Invariant.{NameIn, NamedBy, OwnName}
 
 pub equal-ids-are-the-same : (d e : NodeId) → d ≡ e → sameId d e ≡ true
 equal-ids-are-the-same d e q =
@@ -42,7 +42,7 @@ id-cases d e f g =
 
 module _ (s : Slots) (t : Forest Info) (named : List NodeId) (n : Naming s t named) where
   -- of a node, the id says what the name says
-  id-says-the-name : (m : Maybe ℕ) → NameIn named m → (i g : ℕ) (x : Info) → (x .name < length named) × (getD named (x .name) nobody ≡ record { index = i; generation = g })
+  id-says-the-name : (m : Maybe ℕ) → NameIn named m → (i g : ℕ) (x : Info) → OwnName named i g x
       → isId (idNamed named m) (record { index = i; generation = g }) ≡ isNamed m x
   id-says-the-name nothing h i g x own = refl
   id-says-the-name (just m) h i g x own =
@@ -52,34 +52,34 @@ module _ (s : Slots) (t : Forest Info) (named : List NodeId) (n : Naming s t nam
       (λ q _. absurd (e (n .apart m (x .name) h (own .0) (q ∙ sym (own .1)))))
       (λ _ q. q ∙ sym r))
 
-  pub ids-say-the-names : (m : Maybe ℕ) → NameIn named m → AllF (λ i g x. isId (idNamed named m) (record { index = i; generation = g }) ≡ isNamed m x) t
-  ids-say-the-names m h =
-      all-map (λ i g x. (x .name < length named) × (getD named (x .name) nobody ≡ record { index = i; generation = g }))
-      (λ i g x. isId (idNamed named m) (record { index = i; generation = g }) ≡ isNamed m x) t (λ i g x _ own. id-says-the-name m h i g x own) (n .own)
+  pub ids-say-the-names : (o : MaybeId) (m : Maybe ℕ) → NamedBy named o m → AllF (λ i g x. isId o (record { index = i; generation = g }) ≡ isNamed m x) t
+  ids-say-the-names o m h =
+      all-map (OwnName named)
+      (λ i g x. isId o (record { index = i; generation = g }) ≡ isNamed m x) t
+      (λ i g x _ own. ap (λ (p : MaybeId). isId p (record { index = i; generation = g })) (h .is-id) ∙ id-says-the-name m (h .is-in) i g x own) (n .own)
 
   -- no id that was given is a dead slot's next
-  pub no-id-of-a-dead-slot : (m : Maybe ℕ) → NameIn named m → (j : ℕ) → cnt j t ≡ 0 → isId (idNamed named m) (idAt s j) ≡ false
-  no-id-of-a-dead-slot nothing h j c = refl
-  no-id-of-a-dead-slot (just m) h j c =
-      let d = getD named m nobody in
-      id-cases d (idAt s j)
-      (λ q _.
-      let b : Below s t d = n .old m h in
-      let e : d .index ≡ j = ap (λ (z : NodeId). z .index) q in
-      let f : d .generation ≡ at s j .generation = ap (λ (z : NodeId). z .generation) q in
-      let b′ : d .generation < at s j .generation + cnt j t = subst (λ (i : ℕ). d .generation < at s i .generation + cnt i t) e b in
-      absurd (omega arith))
-      (λ _ q. q)
+  no-id-of-a-dead-slot : (o : MaybeId) (m : Maybe ℕ) → NamedBy named o m → (j : ℕ) → cnt j t ≡ 0 → isId o (idAt s j) ≡ false
+  no-id-of-a-dead-slot o m h j c = ap (λ (p : MaybeId). isId p (idAt s j)) (h .is-id) ∙ go m (h .is-in)
+    where
+      go : (m : Maybe ℕ) → NameIn named m → isId (idNamed named m) (idAt s j) ≡ false
+      go nothing b = refl
+      go (just m) b =
+          let d = getD named m nobody in
+          id-cases d (idAt s j)
+          (λ q _.
+          let l : Below s t d = n .old m b in
+          let e : d .index ≡ j = ap (λ (z : NodeId). z .index) q in
+          let f : d .generation ≡ at s j .generation = ap (λ (z : NodeId). z .generation) q in
+          let l′ : d .generation < at s j .generation + cnt j t = subst (λ (i : ℕ). d .generation < at s i .generation + cnt i t) e l in
+          absurd (omega arith))
+          (λ _ q. q)
 
   -- the node that a hit names is the one that the id names
-  pub record HitNamed (o : MaybeId) (m : Maybe ℕ) : Type 0 where
-    pub is-id : o ≡ idNamed named m
-    pub is-in : NameIn named m
-
-  pub hit-is-named : (o : MaybeId) (m : Maybe ℕ) → Names t o m → HitNamed o m
+  pub hit-is-named : (o : MaybeId) (m : Maybe ℕ) → Names t o m → NamedBy named o m
   hit-is-named _ _ neither = record { is-id = refl; is-in = tt }
   hit-is-named _ _ (one-node {d} {m} w) =
-      let own = w .known (λ i g x. (x .name < length named) × (getD named (x .name) nobody ≡ record { index = i; generation = g })) (n .own) in
+      let own = w .known (OwnName named) (n .own) in
       let e : w .load .name ≡ m = w .named in
       record {
         is-id = ap Present (sym (ap (λ (k : ℕ). getD named k nobody) (sym e) ∙ own .1));
@@ -88,31 +88,31 @@ module _ (s : Slots) (t : Forest Info) (named : List NodeId) (n : Naming s t nam
 
 -- ---- bits
 
-module _ (k : ℕ) (u : Ui) (t : Forest Info) (named : List NodeId) (l : Links k u t) (n : Naming (u .slots) t named) (hover pressed focus : Maybe ℕ)
-    (hn : NameIn named hover) (pn : NameIn named pressed) (fn : NameIn named focus)
-    (pe : u .interaction .pressed ≡ idNamed named pressed) (fe : u .interaction .focus ≡ idNamed named focus) where
-  pub bits-by-names : AllF (λ i g x. bitsAt u (idNamed named hover) i ≡ bitsFor hover pressed focus x) t
+module _ (k : ℕ) (u : Ui) (t : Forest Info) (named : List NodeId) (l : Links k u t) (n : Naming (u .slots) t named) (o : MaybeId) (hover pressed focus : Maybe ℕ)
+    (hn : NamedBy named o hover) (pn : NamedBy named (u .interaction .pressed) pressed) (fn : NamedBy named (u .interaction .focus) focus) where
+  pub bits-by-names : AllF (λ i g x. bitsAt u o i ≡ bitsFor hover pressed focus x) t
   unfolding bitsAt bitsFor
   bits-by-names =
-      let I : Maybe ℕ → ℕ → ℕ → Info → Type 0 = λ m i g x. isId (idNamed named m) (record { index = i; generation = g }) ≡ isNamed m x in
+      let I : MaybeId → Maybe ℕ → ℕ → ℕ → Info → Type 0 = λ p m i g x. isId p (record { index = i; generation = g }) ≡ isNamed m x in
       let G : ℕ → ℕ → Info → Type 0 = λ i g x. (at (u .slots) i .generation ≡ g) × (at (u .slots) i .live ≡ true) in
-      let all4 = all-both (λ i g x. I hover i g x × I pressed i g x) (λ i g x. I focus i g x × G i g x) t
-      (all-both (I hover) (I pressed) t (ids-say-the-names (u .slots) t named n hover hn) (ids-say-the-names (u .slots) t named n pressed pn))
-      (all-both (I focus) G t (ids-say-the-names (u .slots) t named n focus fn) (nodes-have-their-slots-generation (l .rel))) in
-      all-map (λ i g x. (I hover i g x × I pressed i g x) × (I focus i g x × G i g x))
-      (λ i g x. bitsOf (isId (idNamed named hover) (idAt (u .slots) i)) (isId (u .interaction .pressed) (idAt (u .slots) i)) (isId (u .interaction .focus) (idAt (u .slots) i))
-      ≡ bitsOf (isNamed hover x) (isNamed pressed x) (isNamed focus x)) t
+      let p = u .interaction .pressed in
+      let f = u .interaction .focus in
+      let all4 = all-both (λ i g x. I o hover i g x × I p pressed i g x) (λ i g x. I f focus i g x × G i g x) t
+      (all-both (I o hover) (I p pressed) t (ids-say-the-names (u .slots) t named n o hover hn) (ids-say-the-names (u .slots) t named n p pressed pn))
+      (all-both (I f focus) G t (ids-say-the-names (u .slots) t named n f focus fn) (nodes-have-their-slots-generation (l .rel))) in
+      all-map (λ i g x. (I o hover i g x × I p pressed i g x) × (I f focus i g x × G i g x))
+      (λ i g x. bitsOf (isId o (idAt (u .slots) i)) (isId p (idAt (u .slots) i)) (isId f (idAt (u .slots) i)) ≡ bitsOf (isNamed hover x) (isNamed pressed x) (isNamed focus x)) t
       (λ i g x _ q.
       let e : _≡_ {A = NodeId} (idAt (u .slots) i) (record { index = i; generation = g }) = λ z. record { index = i; generation = q .1 .1 .0 z } in
-      let a : isId (idNamed named hover) (idAt (u .slots) i) ≡ isNamed hover x = ap (isId (idNamed named hover)) e ∙ q .0 .0 in
-      let b : isId (u .interaction .pressed) (idAt (u .slots) i) ≡ isNamed pressed x = ap₂ isId pe e ∙ q .0 .1 in
-      let c : isId (u .interaction .focus) (idAt (u .slots) i) ≡ isNamed focus x = ap₂ isId fe e ∙ q .1 .0 in
+      let a : isId o (idAt (u .slots) i) ≡ isNamed hover x = ap (isId o) e ∙ q .0 .0 in
+      let b : isId p (idAt (u .slots) i) ≡ isNamed pressed x = ap (isId p) e ∙ q .0 .1 in
+      let c : isId f (idAt (u .slots) i) ≡ isNamed focus x = ap (isId f) e ∙ q .1 .0 in
       λ z. bitsOf (a z) (b z) (c z)) all4
 
-  pub no-bits-of-dead-slots : (j : ℕ) → j < limitOf u → cnt j t ≡ 0 → bitsAt u (idNamed named hover) j ≡ 0
+  pub no-bits-of-dead-slots : (j : ℕ) → j < limitOf u → cnt j t ≡ 0 → bitsAt u o j ≡ 0
   unfolding bitsAt bitsOf
   no-bits-of-dead-slots j b c =
-      let x = no-id-of-a-dead-slot (u .slots) t named n hover hn j c in
-      let y : isId (u .interaction .pressed) (idAt (u .slots) j) ≡ false = ap (λ (o : MaybeId). isId o (idAt (u .slots) j)) pe ∙ no-id-of-a-dead-slot (u .slots) t named n pressed pn j c in
-      let z : isId (u .interaction .focus) (idAt (u .slots) j) ≡ false = ap (λ (o : MaybeId). isId o (idAt (u .slots) j)) fe ∙ no-id-of-a-dead-slot (u .slots) t named n focus fn j c in
+      let x = no-id-of-a-dead-slot (u .slots) t named n o hover hn j c in
+      let y = no-id-of-a-dead-slot (u .slots) t named n (u .interaction .pressed) pressed pn j c in
+      let z = no-id-of-a-dead-slot (u .slots) t named n (u .interaction .focus) focus fn j c in
       λ i. pick (x i) 1 0 + pick (y i) 2 0 + pick (z i) 4 0

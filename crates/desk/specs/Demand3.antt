@@ -3,10 +3,10 @@
 -- What it promises the harbour master: whatever was inserted, removed, styled, pressed and typed before, and however slots and fields were
 -- used again, a live node answers as if every node ever made had a name of its own. Its text is made of the keys that were handled while it had
 -- the focus, and of no other ship's; a field into which no key fell is empty and reads as 9, never as 0; its box is that of the last pass.
-use Prim.Native.Nat.{ℕ, zero, suc, _<_, _^_}
+use Prim.Native.Nat.{ℕ, zero, suc, _+_, _<_, _^_}
 use mathlib.Core.Path.{_≡_}
-use mathlib.Core.Bool.{Bool, true, false}
-use mathlib.Core.List.{List, [], _∷_}
+use mathlib.Core.Bool.{false}
+use mathlib.Core.List.{List, [], _∷_, _++_}
 use lib.ListN.{length}
 use Rattle.text.specs.Refusal.{accepted}
 use Rattle.field.specs.declared.NodeId.{NodeId}
@@ -19,8 +19,10 @@ use Rattle.tree.specs.Calls as tree
 use Rattle.tree.specs.Calls.{Outcome, nobody}
 use Rattle.tree.specs.declared.Ui.{Ui}
 use Rattle.desk.specs.Events as desk
-use Rattle.desk.specs.History.{History, Call, start, judge, note, textSaid, caretSaid, metresSaid, rectSaid, idNamed, rootId}
-use Rattle.desk.specs.History.Call.{insert, remove, setStyle, setStateTable, setPatchPool, makeField, solve, handle, nextOutput, fieldText, fieldCursor, metres, rect, live, firstChild, nextSibling, absorb}
+use Rattle.desk.specs.History.{History, Call, Change, Question, start, refusalOf, recorded, textSaid, caretSaid, metresSaid, rectSaid, idNamed}
+use Rattle.desk.specs.History.Call.{insert, change, ask}
+use Rattle.desk.specs.History.Change.{remove, setStyle, setStateTable, setPatchPool, makeField, solve, handle, nextOutput}
+use Rattle.desk.specs.History.Question.{fieldText, fieldCursor, metres, rect, live, firstChild, nextSibling, absorb}
 
 -- ---- the calls, by the definitions that the contracts cite
 
@@ -36,24 +38,31 @@ silent o = record { next = o .next; number = o .answer .number; told = nobody }
 abbrev pub telling : Outcome NodeId → Step
 telling o = record { next = o .next; number = o .answer .number; told = o .answer .value }
 
+abbrev pub changeStep : Ui → Change → Step
+changeStep u (remove d) = silent (tree.remove u d)
+changeStep u (setStyle d s) = silent (tree.setStyle u d s)
+changeStep u (setStateTable d table) = silent (tree.setStateTable u d table)
+changeStep u (setPatchPool patches count) = silent (tree.setPatchPool u patches count)
+changeStep u (makeField d) = silent (tree.makeField u d)
+changeStep u (solve v) = silent (tree.solve u v)
+changeStep u (handle e) = silent (desk.handle u e)
+changeStep u nextOutput = silent (desk.nextOutput u)
+
+-- A read's number is its answer's; the tree stays as it is.
+abbrev pub numberAsked : Ui → Question → ℕ
+numberAsked u (fieldText d) = tree.fieldText u d .answer .number
+numberAsked u (fieldCursor d) = tree.fieldCursor u d .answer .number
+numberAsked u (metres d) = desk.metres u d .answer .number
+numberAsked u (rect d) = tree.rect u d .answer .number
+numberAsked u (live d) = tree.live u d .answer .number
+numberAsked u (firstChild d) = tree.firstChild u d .answer .number
+numberAsked u (nextSibling d) = tree.nextSibling u d .answer .number
+numberAsked u (absorb s) = desk.absorb u s .answer .number
+
 unfoldable pub step : Ui → Call → Step
 step u (insert d) = telling (tree.insert u d)
-step u (remove d) = silent (tree.remove u d)
-step u (setStyle d s) = silent (tree.setStyle u d s)
-step u (setStateTable d table) = silent (tree.setStateTable u d table)
-step u (setPatchPool patches count) = silent (tree.setPatchPool u patches count)
-step u (makeField d) = silent (tree.makeField u d)
-step u (solve v) = silent (tree.solve u v)
-step u (handle e) = silent (desk.handle u e)
-step u nextOutput = silent (desk.nextOutput u)
-step u (fieldText d) = silent (tree.fieldText u d)
-step u (fieldCursor d) = silent (tree.fieldCursor u d)
-step u (metres d) = silent (desk.metres u d)
-step u (rect d) = silent (tree.rect u d)
-step u (live d) = silent (tree.live u d)
-step u (firstChild d) = silent (tree.firstChild u d)
-step u (nextSibling d) = silent (tree.nextSibling u d)
-step u (absorb s) = silent (desk.absorb u s)
+step u (change c) = changeStep u c
+step u (ask q) = record { next = u; number = numberAsked u q; told = nobody }
 
 -- A list of calls: the tree after it, the refusal numbers, what the history is told, and the ids of the accepted inserts.
 abbrev pub run : Ui → List Call → Ui
@@ -68,48 +77,30 @@ abbrev pub feed : Ui → List Call → List NodeId
 feed u [] = []
 feed u (c ∷ cs) = step u c .told ∷ feed (step u c .next) cs
 
-abbrev pub isInsert : Call → Bool
-isInsert (insert d) = true
-isInsert (remove d) = false
-isInsert (setStyle d s) = false
-isInsert (setStateTable d table) = false
-isInsert (setPatchPool patches count) = false
-isInsert (makeField d) = false
-isInsert (solve v) = false
-isInsert (handle e) = false
-isInsert nextOutput = false
-isInsert (fieldText d) = false
-isInsert (fieldCursor d) = false
-isInsert (metres d) = false
-isInsert (rect d) = false
-isInsert (live d) = false
-isInsert (firstChild d) = false
-isInsert (nextSibling d) = false
-isInsert (absorb s) = false
+abbrev pub idGiven : Call → Step → List NodeId
+idGiven (insert d) s = pick (same (s .number) 0) (s .told ∷ []) []
+idGiven (change c) s = []
+idGiven (ask q) s = []
 
 abbrev pub given : Ui → List Call → List NodeId
 given u [] = []
-given u (c ∷ cs) = pick (isInsert c) (pick (same (step u c .number) 0) (step u c .told ∷ given (step u c .next) cs) (given (step u c .next) cs)) (given (step u c .next) cs)
+given u (c ∷ cs) = idGiven c (step u c) ++ given (step u c .next) cs
 
 -- The arguments are machine values. Numbers may be any at all; what counts is that arrays have their lengths.
+abbrev pub MachineChange : Change → Type 0
+MachineChange (remove d) = Unit {0}
+MachineChange (setStyle d s) = Unit {0}
+MachineChange (setStateTable d table) = length table ≡ 16
+MachineChange (setPatchPool patches count) = length patches ≡ 64
+MachineChange (makeField d) = Unit {0}
+MachineChange (solve v) = Unit {0}
+MachineChange (handle e) = Unit {0}
+MachineChange nextOutput = Unit {0}
+
 abbrev pub Machine : Call → Type 0
 Machine (insert d) = Unit {0}
-Machine (remove d) = Unit {0}
-Machine (setStyle d s) = Unit {0}
-Machine (setStateTable d table) = length table ≡ 16
-Machine (setPatchPool patches count) = length patches ≡ 64
-Machine (makeField d) = Unit {0}
-Machine (solve v) = Unit {0}
-Machine (handle e) = Unit {0}
-Machine nextOutput = Unit {0}
-Machine (fieldText d) = Unit {0}
-Machine (fieldCursor d) = Unit {0}
-Machine (metres d) = Unit {0}
-Machine (rect d) = Unit {0}
-Machine (live d) = Unit {0}
-Machine (firstChild d) = Unit {0}
-Machine (nextSibling d) = Unit {0}
-Machine (absorb s) = Unit {0}
+Machine (change c) = MachineChange c
+Machine (ask q) = Unit {0}
 
 abbrev pub Machines : List Call → Type 0
 Machines [] = Unit {0}
@@ -120,12 +111,12 @@ Machines (c ∷ cs) = Machine c × Machines cs
 abbrev pub follow : History → List Call → List NodeId → History
 follow h [] fed = h
 follow h (c ∷ cs) [] = h
-follow h (c ∷ cs) (d ∷ fed) = follow (note h c d) cs fed
+follow h (c ∷ cs) (d ∷ fed) = follow (recorded h c d) cs fed
 
-abbrev pub judged : History → List Call → List NodeId → List ℕ
-judged h [] fed = []
-judged h (c ∷ cs) [] = []
-judged h (c ∷ cs) (d ∷ fed) = judge h c ∷ judged (note h c d) cs fed
+abbrev pub refusals : History → List Call → List NodeId → List ℕ
+refusals h [] fed = []
+refusals h (c ∷ cs) [] = []
+refusals h (c ∷ cs) (d ∷ fed) = refusalOf h c ∷ refusals (recorded h c d) cs fed
 
 -- ---- the claim
 
@@ -157,11 +148,18 @@ abbrev pub Distinct : List NodeId → Type 0
 Distinct [] = Unit {0}
 Distinct (d ∷ ds) = Others d ds × Distinct ds
 
--- Of a limit and a list of calls: each call was refused just as the history says, no id was given twice, and then all is as the history says.
-pub record Holds (limit : ℕ) (cs : List Call) : Type 0 where
-  pub refused-alike : numbers (tree.newTree limit .next) cs ≡ judged (start limit) cs (feed (tree.newTree limit .next) cs)
-  pub ids-differ : Distinct (rootId ∷ given (tree.newTree limit .next) cs)
-  pub agree : Agree (run (tree.newTree limit .next) cs) (follow (start limit) cs (feed (tree.newTree limit .next) cs))
+-- Of a tree and a history to start from, and a list of calls: each call is refused just as the history says, no id is given twice or was given before,
+-- and then all is as the history says.
+pub record Holds (u : Ui) (h : History) (cs : List Call) : Type 0 where
+  pub refused-alike : numbers u cs ≡ refusals h cs (feed u cs)
+  pub ids-differ : Distinct (h .named ++ given u cs)
+  pub agree : Agree (run u cs) (follow h cs (feed u cs))
 
+-- The claim from wherever tree and history are related, k calls after they began. It is proved of the relation in proofs/Invariant.antt,
+-- so a start needs only to be so related.
+abbrev pub HoldsFrom : (ℕ → Ui → History → Type 0) → Type 0
+HoldsFrom Related = (k : ℕ) (u : Ui) (h : History) → Related k u h → (cs : List Call) → k + length cs < 2 ^ 63 → Machines cs → Holds u h cs
+
+-- Demand 3: from the new tree of any limit, where the root's id is the one that was given before.
 abbrev pub Demand3 : Type 0
-Demand3 = (limit : ℕ) → limit < 2 ^ 32 → (cs : List Call) → length cs < 2 ^ 63 → Machines cs → Holds limit cs
+Demand3 = (limit : ℕ) → limit < 2 ^ 32 → (cs : List Call) → length cs < 2 ^ 63 → Machines cs → Holds (tree.newTree limit .next) (start limit) cs

@@ -88,8 +88,8 @@ keyBytes (Char c) = lowBytes 8 1 ++ lowBytes 8 c
 keyBytes (Op op) = lowBytes 8 2 ++ lowBytes 8 (opCode op)
 
 -- The edit changed something: length or caret.
-abbrev pub changed : Field → Field → Bool
-changed f g = not (same (f .len) (g .len) && same (f .cursor) (g .cursor))
+abbrev pub hasChanged : Field → Field → Bool
+hasChanged f g = not (same (f .len) (g .len) && same (f .cursor) (g .cursor))
 
 unfoldable pub editFold : Ui → NodeId → Key → ℕ
 editFold u d key = absorbed emptyHash (lowBytes 8 (u .interaction .«edit_fold») ++ idBytes d ++ keyBytes key) .state
@@ -99,25 +99,26 @@ abbrev pub editField : Ui → NodeId → Key → Maybe Field → Ui
 editField u d key nothing = u
 editField u d key (just f) =
     withInteraction (withFields u (changeFirst (owns d) (keyedField key) (u .fields)))
-    (pick (changed f (keyedField key f)) (foldedBy (u .interaction) (editFold u d key)) (u .interaction))
+    (pick (hasChanged f (keyedField key f)) (foldedBy (u .interaction) (editFold u d key)) (u .interaction))
 
 abbrev pub editFocused : Ui → Key → MaybeId → Ui
 editFocused u key Absent = u
 editFocused u key (Present d) = pick (isLive (limitOf u) (u .slots) d) (editField u d key (fieldOf d (u .fields))) u
 
 -- An event before the bits are refreshed, with `hit` the node under the pointer.
-abbrev pub heard : Ui → MaybeId → UiEvent → Ui
-heard u hit (PointerMoved x′ y′) = withInteraction u (pointedAt (u .interaction) (record { x = x′; y = y′ }))
-heard u hit PointerPressed = withInteraction u (pressedOn (u .interaction) hit)
-heard u hit PointerReleased = releasedOn u hit (u .interaction .pressed)
-heard u hit (TextEntered ch) = editFocused u (Char ch) (u .interaction .focus)
-heard u hit (Edit op) = editFocused u (Op op) (u .interaction .focus)
+abbrev pub appliedEvent : Ui → MaybeId → UiEvent → Ui
+appliedEvent u hit (PointerMoved x′ y′) = withInteraction u (pointedAt (u .interaction) (record { x = x′; y = y′ }))
+appliedEvent u hit PointerPressed = withInteraction u (pressedOn (u .interaction) hit)
+appliedEvent u hit PointerReleased = releasedOn u hit (u .interaction .pressed)
+appliedEvent u hit (TextEntered ch) = editFocused u (Char ch) (u .interaction .focus)
+appliedEvent u hit (Edit op) = editFocused u (Op op) (u .interaction .focus)
 
+-- The node under the pointer. Press, release and hover all go by it.
 unfoldable pub hitOf : Ui → MaybeId
 hitOf u = hitTest u (u .interaction .pointer)
 
 unfoldable pub handled : Ui → UiEvent → Ui
-handled u event = let v = heard u (hitOf u) event in refreshed v (hitOf v)
+handled u event = let v = appliedEvent u (hitOf u) event in refreshed v (hitOf v)
 
 unfoldable pub handle : Ui → UiEvent → Outcome ℕ
 handle u event = guarded u 0 (gives (handled u event) 0)

@@ -31,25 +31,31 @@ use Rattle.desk.specs.declared.UiEvent.the-variants.{PointerMoved, Point
 use Rattle.desk.specs.declared.Key.{Key}
 use Rattle.desk.specs.declared.Key.the-variants.{Char, Op}
 
--- A call of the tree with its arguments.
+-- A call of the tree with its arguments: an insertion, which alone gives an id; another call that may change the tree; a read, which cannot.
+pub data Change : Type 0 where
+  remove : NodeId → Change
+  setStyle : NodeId → Style → Change
+  setStateTable : NodeId → List ℕ → Change
+  setPatchPool : List StatePatch → ℕ → Change
+  makeField : NodeId → Change
+  solve : Viewport → Change
+  handle : UiEvent → Change
+  nextOutput : Change
+
+pub data Question : Type 0 where
+  fieldText : NodeId → Question
+  fieldCursor : NodeId → Question
+  metres : NodeId → Question
+  rect : NodeId → Question
+  live : NodeId → Question
+  firstChild : NodeId → Question
+  nextSibling : NodeId → Question
+  absorb : StateHash → Question
+
 pub data Call : Type 0 where
   insert : NodeId → Call
-  remove : NodeId → Call
-  setStyle : NodeId → Style → Call
-  setStateTable : NodeId → List ℕ → Call
-  setPatchPool : List StatePatch → ℕ → Call
-  makeField : NodeId → Call
-  solve : Viewport → Call
-  handle : UiEvent → Call
-  nextOutput : Call
-  fieldText : NodeId → Call
-  fieldCursor : NodeId → Call
-  metres : NodeId → Call
-  rect : NodeId → Call
-  live : NodeId → Call
-  firstChild : NodeId → Call
-  nextSibling : NodeId → Call
-  absorb : StateHash → Call
+  change : Change → Call
+  ask : Question → Call
 
 -- The pointer, and the names of the nodes pressed and in focus, dead or not.
 pub record Input : Type 0 where
@@ -58,17 +64,17 @@ pub record Input : Type 0 where
   pub focus : Maybe ℕ
 
 -- What a pass and wearing go by: the pool, the viewport of the last pass, and whether a pass is due.
-pub record Board : Type 0 where
+pub record Styling : Type 0 where
   pub pool : List StatePatch
   pub viewport : Viewport
   pub dirty : Bool
 
--- The live nodes; every id that was ever given, at the place of its node's name; the board; the input.
+-- The live nodes; every id that was ever given, at the place of its node's name; the styling; the input.
 pub record History : Type 0 where
   pub limit : ℕ
   pub tree : Forest Info
   pub named : List NodeId
-  pub board : Board
+  pub styling : Styling
   pub input : Input
 
 abbrev pub rootId : NodeId
@@ -83,16 +89,23 @@ start limit′ = record {
   limit = limitFrom limit′;
   tree = node 0 1 (newInfo 0) nil nil;
   named = rootId ∷ [];
-  board = record { pool = []; viewport = record { width = pos 0; height = pos 0 }; dirty = true };
+  styling = record { pool = []; viewport = record { width = pos 0; height = pos 0 }; dirty = true };
   input = record { pointer = record { x = pos 0; y = pos 0 }; pressed = nothing; focus = nothing };
 }
 
--- The history with some of it changed.
-abbrev pub withTree : History → Forest Info → Bool → History
-withTree h t d = record { limit = h .limit; tree = t; named = h .named; board = record { pool = h .board .pool; viewport = h .board .viewport; dirty = d }; input = h .input }
+-- The history with some of it changed: definitions touch it through these alone, so that a field more changes them and the start.
+abbrev pub withStyling : History → Forest Info → Styling → History
+withStyling h t s = record { limit = h .limit; tree = t; named = h .named; styling = s; input = h .input }
+
+abbrev pub withNames : History → List NodeId → History
+withNames h names = record { limit = h .limit; tree = h .tree; named = names; styling = h .styling; input = h .input }
 
 abbrev pub withInput : History → Input → History
-withInput h i = record { limit = h .limit; tree = h .tree; named = h .named; board = h .board; input = i }
+withInput h i = record { limit = h .limit; tree = h .tree; named = h .named; styling = h .styling; input = i }
+
+-- Other nodes, and whether a pass is due.
+abbrev pub withTree : History → Forest Info → Bool → History
+withTree h t due = withStyling h t (record { pool = h .styling .pool; viewport = h .styling .viewport; dirty = due })
 
 -- Some live node has the id.
 abbrev pub has : History → NodeId → Bool
@@ -131,39 +144,48 @@ rectSaid h d = ofNode noRect (λ x. accepted (x .rect)) (find d (h .tree))
 abbrev pub unless : Bool → ℕ → ℕ → ℕ
 unless b n m = pick b m n
 
-abbrev pub judgeField : History → Maybe Info → ℕ
-judgeField h nothing = numberOf Missing
-judgeField h (just x) = unless (hasField x || ltb (fieldCount (h .tree)) 8) (numberOf Full) 0
+abbrev pub refusalOfField : History → Maybe Info → ℕ
+refusalOfField h nothing = numberOf Missing
+refusalOfField h (just x) = unless (hasField x || ltb (fieldCount (h .tree)) 8) (numberOf Full) 0
 
-unfoldable pub judge : History → Call → ℕ
-judge h (insert d) = unless (has h d) (numberOf Missing) (unless (ltb (size (h .tree)) (h .limit)) (numberOf Full) 0)
-judge h (remove d) = unless (has h d) (numberOf Missing) (unless (not (sameId d rootId)) (numberOf Root) 0)
-judge h (setStyle d s) = unless (has h d) (numberOf Missing) 0
-judge h (setStateTable d table) = unless (has h d) (numberOf Missing) (unless (all (inPool (length (h .board .pool))) table) (numberOf Foreign) 0)
-judge h (setPatchPool patches count) = unless (not (ltb 64 count)) (numberOf Long) 0
-judge h (makeField d) = judgeField h (find d (h .tree))
-judge h (solve v) = 0
-judge h (handle e) = 0
-judge h nextOutput = 0
-judge h (fieldText d) = textSaid h d .number
-judge h (fieldCursor d) = caretSaid h d .number
-judge h (metres d) = metresSaid h d .number
-judge h (rect d) = rectSaid h d .number
-judge h (live d) = 0
-judge h (firstChild d) = 0
-judge h (nextSibling d) = unless (has h d) (numberOf Missing) 0
-judge h (absorb s) = 0
+abbrev pub refusalOfChange : History → Change → ℕ
+refusalOfChange h (remove d) = unless (has h d) (numberOf Missing) (unless (not (sameId d rootId)) (numberOf Root) 0)
+refusalOfChange h (setStyle d s) = unless (has h d) (numberOf Missing) 0
+refusalOfChange h (setStateTable d table) = unless (has h d) (numberOf Missing) (unless (all (inPool (length (h .styling .pool))) table) (numberOf Foreign) 0)
+refusalOfChange h (setPatchPool patches count) = unless (not (ltb 64 count)) (numberOf Long) 0
+refusalOfChange h (makeField d) = refusalOfField h (find d (h .tree))
+refusalOfChange h (solve v) = 0
+refusalOfChange h (handle e) = 0
+refusalOfChange h nextOutput = 0
 
--- The node under the pointer, by this tree and these boxes.
-abbrev pub hovered : History → Maybe ℕ
-hovered h = hitF (h .input .pointer) nothing (h .tree)
+abbrev pub refusalOfQuestion : History → Question → ℕ
+refusalOfQuestion h (fieldText d) = textSaid h d .number
+refusalOfQuestion h (fieldCursor d) = caretSaid h d .number
+refusalOfQuestion h (metres d) = metresSaid h d .number
+refusalOfQuestion h (rect d) = rectSaid h d .number
+refusalOfQuestion h (live d) = 0
+refusalOfQuestion h (firstChild d) = 0
+refusalOfQuestion h (nextSibling d) = unless (has h d) (numberOf Missing) 0
+refusalOfQuestion h (absorb s) = 0
 
--- Every live node wears the bits that follow from the hit, the press and the focus.
+unfoldable pub refusalOf : History → Call → ℕ
+refusalOf h (insert d) = unless (has h d) (numberOf Missing) (unless (ltb (size (h .tree)) (h .limit)) (numberOf Full) 0)
+refusalOf h (change c) = refusalOfChange h c
+refusalOf h (ask q) = refusalOfQuestion h q
+
+-- The name of the node under the pointer, by this tree and these boxes. Press, release and hover all go by it.
+abbrev pub hitName : History → Maybe ℕ
+hitName h = hitF (h .input .pointer) nothing (h .tree)
+
+-- The bits of a node follow from the hit, the press and the focus.
+abbrev pub bitsIn : History → Info → ℕ
+bitsIn h x = bitsFor (hitName h) (h .input .pressed) (h .input .focus) x
+
+-- Every live node wears its bits as they stand.
 unfoldable pub refresh : History → History
 refresh h =
-    let bits : Info → ℕ = bitsFor (hovered h) (h .input .pressed) (h .input .focus) in
-    let pool = h .board .pool in
-    withTree h (mapF (λ i g x. wears pool (bits x) x) (h .tree)) (h .board .dirty || anyF (λ i g x. swaps pool (bits x) x) (h .tree))
+    let pool = h .styling .pool in
+    withTree h (mapF (λ i g x. wears pool (bitsIn h x) x) (h .tree)) (h .styling .dirty || anyF (λ i g x. swaps pool (bitsIn h x) x) (h .tree))
 
 -- The name is the other's.
 abbrev pub sameName : Maybe ℕ → Maybe ℕ → Bool
@@ -181,63 +203,53 @@ mapMaybe f nothing = nothing
 mapMaybe f (just t) = just (f t)
 
 abbrev pub typedInto : History → Key → History
-typedInto h key = withTree h (changeNamed (h .input .focus) (λ x. withField x (mapMaybe (keyText key) (x .text))) (h .tree)) (h .board .dirty)
+typedInto h key = withTree h (changeNamed (h .input .focus) (λ x. withField x (mapMaybe (keyText key) (x .text))) (h .tree)) (h .styling .dirty)
 
 -- An event before the bits are refreshed.
-abbrev pub hears : History → UiEvent → History
-hears h (PointerMoved x′ y′) = withInput h (record { pointer = record { x = x′; y = y′ }; pressed = h .input .pressed; focus = h .input .focus })
-hears h PointerPressed = withInput h (record { pointer = h .input .pointer; pressed = hovered h; focus = h .input .focus })
-hears h PointerReleased =
-    withInput h (record { pointer = h .input .pointer; pressed = nothing; focus = pick (sameName (h .input .pressed) (hovered h)) (h .input .pressed) (h .input .focus) })
-hears h (TextEntered ch) = typedInto h (Char ch)
-hears h (Edit op) = typedInto h (Op op)
+abbrev pub afterEvent : History → UiEvent → History
+afterEvent h (PointerMoved x′ y′) = withInput h (record { pointer = record { x = x′; y = y′ }; pressed = h .input .pressed; focus = h .input .focus })
+afterEvent h PointerPressed = withInput h (record { pointer = h .input .pointer; pressed = hitName h; focus = h .input .focus })
+afterEvent h PointerReleased =
+    withInput h (record { pointer = h .input .pointer; pressed = nothing; focus = pick (sameName (h .input .pressed) (hitName h)) (h .input .pressed) (h .input .focus) })
+afterEvent h (TextEntered ch) = typedInto h (Char ch)
+afterEvent h (Edit op) = typedInto h (Op op)
 
 -- A new last child of a node, with a name never used.
 unfoldable pub grown : History → NodeId → NodeId → History
 grown h parent new =
-    let x = newInfo (length (h .named)) in
-    let t = setKidsOf parent (app (kidsOf parent (h .tree)) (node (new .index) (new .generation) x nil nil)) (h .tree) in
-    record { limit = h .limit; tree = t; named = h .named ++ new ∷ []; board = record { pool = h .board .pool; viewport = h .board .viewport; dirty = true }; input = h .input }
+    let child = node (new .index) (new .generation) (newInfo (length (h .named))) nil nil in
+    withNames (withTree h (setKidsOf parent (app (kidsOf parent (h .tree)) child) (h .tree)) true) (h .named ++ new ∷ [])
 
 abbrev pub keepText : Maybe Text → Maybe Text
 keepText nothing = just (text [] [])
 keepText (just t) = just t
 
--- What an accepted call makes of the history; `new` is the id that an insert gave.
+-- What an accepted call makes of the history; `new` is the id that an insertion gave.
+abbrev pub afterChange : History → Change → History
+afterChange h (remove d) = withTree h (cutOf d (h .tree)) true
+afterChange h (setStyle d s) = withTree h (changeOf d (restyled s) (h .tree)) true
+afterChange h (setStateTable d table) =
+    let pool = h .styling .pool in
+    withTree h (changeOf d (λ x. wears pool (x .bits) (withTable table x)) (h .tree))
+    (h .styling .dirty || anyF (λ i g x. hasBoth d i g && swaps pool (x .bits) (withTable table x)) (h .tree))
+afterChange h (setPatchPool patches count) =
+    withStyling h (mapF (λ i g x. bare x) (h .tree))
+    (record { pool = take count patches; viewport = h .styling .viewport; dirty = h .styling .dirty || anyF (λ i g x. not (same (x .applied) noPatch)) (h .tree) })
+afterChange h (makeField d) = withTree h (changeOf d (λ x. withField x (keepText (x .text))) (h .tree)) (h .styling .dirty)
+afterChange h (solve v) =
+    pick (not (h .styling .dirty) && sameView (h .styling .viewport) v) h
+    (withStyling h (placeF (h .tree) (viewRect v ∷ [])) (record { pool = h .styling .pool; viewport = v; dirty = false }))
+afterChange h (handle e) = refresh (afterEvent h e)
+afterChange h nextOutput = h
+
 unfoldable pub accept : History → Call → NodeId → History
 accept h (insert d) new = grown h d new
-accept h (remove d) new = withTree h (cutOf d (h .tree)) true
-accept h (setStyle d s) new = withTree h (changeOf d (restyled s) (h .tree)) true
-accept h (setStateTable d table) new =
-    let pool = h .board .pool in
-    withTree h (changeOf d (λ x. wears pool (x .bits) (withTable table x)) (h .tree))
-    (h .board .dirty || anyF (λ i g x. hasBoth d i g && swaps pool (x .bits) (withTable table x)) (h .tree))
-accept h (setPatchPool patches count) new =
-    record {
-      limit = h .limit;
-      tree = mapF (λ i g x. bare x) (h .tree);
-      named = h .named;
-      board = record { pool = take count patches; viewport = h .board .viewport; dirty = h .board .dirty || anyF (λ i g x. not (same (x .applied) noPatch)) (h .tree) };
-      input = h .input;
-    }
-accept h (makeField d) new = withTree h (changeOf d (λ x. withField x (keepText (x .text))) (h .tree)) (h .board .dirty)
-accept h (solve v) new =
-    pick (not (h .board .dirty) && sameView (h .board .viewport) v) h
-    (record { limit = h .limit; tree = placeF (h .tree) (viewRect v ∷ []); named = h .named; board = record { pool = h .board .pool; viewport = v; dirty = false }; input = h .input })
-accept h (handle e) new = refresh (hears h e)
-accept h nextOutput new = h
-accept h (fieldText d) new = h
-accept h (fieldCursor d) new = h
-accept h (metres d) new = h
-accept h (rect d) new = h
-accept h (live d) new = h
-accept h (firstChild d) new = h
-accept h (nextSibling d) new = h
-accept h (absorb s) new = h
+accept h (change c) new = afterChange h c
+accept h (ask q) new = h
 
 -- A refused call changes nothing.
-unfoldable pub note : History → Call → NodeId → History
-note h c new = pick (same (judge h c) 0) (accept h c new) h
+unfoldable pub recorded : History → Call → NodeId → History
+recorded h c new = pick (same (refusalOf h c) 0) (accept h c new) h
 
 -- The stored focus: the id of the node that has the name, dead or not.
 abbrev pub idNamed : List NodeId → Maybe ℕ → MaybeId

@@ -6,8 +6,9 @@ use Rattle.field.specs.declared.NodeId.{NodeId}
 use Rattle.tree.specs.Tests.{pick, same, Maybe, nothing, just}
 use Rattle.tree.specs.Forest.{find}
 use Rattle.tree.specs.Nodes.{Info}
-use Rattle.desk.specs.History.{History, Call, judge, note, sameName, keyText}
-use Rattle.desk.specs.History.Call.{insert, remove, setStyle, setStateTable, setPatchPool, makeField, solve, handle, nextOutput, fieldText, fieldCursor, metres, rect, live, firstChild, nextSibling, absorb}
+use Rattle.desk.specs.History.{History, Call, Change, refusalOf, recorded, sameName, keyText}
+use Rattle.desk.specs.History.Call.{insert, change, ask}
+use Rattle.desk.specs.History.Change.{remove, setStyle, setStateTable, setPatchPool, makeField, solve, handle, nextOutput}
 use Rattle.desk.specs.declared.UiEvent.{UiEvent}
 use Rattle.desk.specs.declared.UiEvent.the-variants.{PointerMoved, PointerPressed, PointerReleased, TextEntered, Edit}
 use Rattle.desk.specs.declared.Key.{Key}
@@ -45,30 +46,26 @@ abbrev pub logField : Maybe Info → Log → Log
 logField nothing log = log
 logField (just x) log = beginAt (x .text) (x .name) log
 
+abbrev pub loggedChange : History → Change → Log → Log
+loggedChange h (remove d) log = log
+loggedChange h (setStyle d s) log = log
+loggedChange h (setStateTable d table) log = log
+loggedChange h (setPatchPool patches count) log = log
+loggedChange h (makeField d) log = logField (find d (h .tree)) log
+loggedChange h (solve v) log = log
+loggedChange h (handle e) log = logEvent (h .input .focus) e log
+loggedChange h nextOutput log = log
+
 unfoldable pub logged : History → Call → Log → Log
 logged h (insert d) log = log
-logged h (remove d) log = log
-logged h (setStyle d s) log = log
-logged h (setStateTable d table) log = log
-logged h (setPatchPool patches count) log = log
-logged h (makeField d) log = logField (find d (h .tree)) log
-logged h (solve v) log = log
-logged h (handle e) log = logEvent (h .input .focus) e log
-logged h nextOutput log = log
-logged h (fieldText d) log = log
-logged h (fieldCursor d) log = log
-logged h (metres d) log = log
-logged h (rect d) log = log
-logged h (live d) log = log
-logged h (firstChild d) log = log
-logged h (nextSibling d) log = log
-logged h (absorb s) log = log
+logged h (change c) log = loggedChange h c log
+logged h (ask q) log = log
 
 -- The keys of each node after a list of calls: those handled while it had the focus, since its field was made.
 abbrev pub logs : History → List Call → List NodeId → Log → Log
 logs h [] fed log = log
 logs h (c ∷ cs) [] log = log
-logs h (c ∷ cs) (d ∷ fed) log = logs (note h c d) cs fed (pick (same (judge h c) 0) (logged h c log) log)
+logs h (c ∷ cs) (d ∷ fed) log = logs (recorded h c d) cs fed (pick (same (refusalOf h c) 0) (logged h c log) log)
 
 -- No key yet.
 abbrev pub noKeys : Log

@@ -11,8 +11,8 @@ abbrev pub partsOf : Ui → Parts
 partsOf u = record { interaction = u .interaction; fields = u .fields; outputs = u .outputs; «output_count» = u .«output_count» }
 
 -- The tree with other parts.
-abbrev pub heardAs : Ui → Parts → Ui
-heardAs u p = withHeard u (p .interaction) (p .fields) (p .outputs) (p .«output_count»)
+abbrev pub withParts : Ui → Parts → Ui
+withParts u p = withHeard u (p .interaction) (p .fields) (p .outputs) (p .«output_count»)
 
 -- There is a node, and it is live.
 abbrev pub hasLive : Ui → MaybeId → Bool

@@ -8,7 +8,7 @@ ghost use Rattle.tree.specs.Fields.{fieldOf};
 ghost use Rattle.tree.specs.Trees.{limitOf, over, withInteraction, withWaiting};
 ghost use Rattle.tree.specs.declared.Ui.{Ui};
 ghost use Rattle.field.specs.declared.MaybeId.{MaybeId};
-ghost use Rattle.desk.specs.Parts.{partsOf, heardAs, hasLive};
+ghost use Rattle.desk.specs.Parts.{partsOf, withParts, hasLive};
 ghost use Rattle.desk.specs.Events as events;
 ghost use Rattle.desk.specs.Events.{pointedAt, pressedOn, foldedBy, idBytes, keyBytes, releasedOn, keyedField, editFocused};
 ghost use Rattle.arithmetic.specs.Fold.{lowBytes, emptyHash, absorbed};
@@ -33,7 +33,7 @@ use tree::state;
 
 // The pointer elsewhere.
 fn point(p: Parts, x: i32, y: i32) -> Parts
-    ensures { λ r. ⌜ ((u : Ui) → heardAs u r ≡ withInteraction (heardAs u p) (pointedAt (p .interaction) (record { x = x; y = y }))) ⌝ }
+    ensures { λ r. ⌜ ((u : Ui) → withParts u r ≡ withInteraction (withParts u p) (pointedAt (p .interaction) (record { x = x; y = y }))) ⌝ }
 {
     let a = p.interaction;
     let pressed = a.pressed;
@@ -54,7 +54,7 @@ fn point(p: Parts, x: i32, y: i32) -> Parts
 
 // A press on a node, or none.
 fn press(p: Parts, id: MaybeId) -> Parts
-    ensures { λ r. ⌜ ((u : Ui) → heardAs u r ≡ withInteraction (heardAs u p) (pressedOn (p .interaction) id)) ⌝ }
+    ensures { λ r. ⌜ ((u : Ui) → withParts u r ≡ withInteraction (withParts u p) (pressedOn (p .interaction) id)) ⌝ }
 {
     let a = p.interaction;
     let pointer = a.pointer;
@@ -116,7 +116,7 @@ fn with_output(ids: [NodeId; 128], k: u32, d: NodeId) -> [NodeId; 128]
 // An output after those that wait.
 fn queue(p: Parts, d: NodeId) -> Parts
     requires { ⌜ p .«output_count» < 128 ⌝ }
-    ensures { λ r. ⌜ ((u : Ui) → heardAs u r ≡ withWaiting (heardAs u p) (take (p .«output_count») (p .outputs) ++ d ∷ [])) ⌝ }
+    ensures { λ r. ⌜ ((u : Ui) → withParts u r ≡ withWaiting (withParts u p) (take (p .«output_count») (p .outputs) ++ d ∷ [])) ⌝ }
 {
     let ids = p.outputs;
     let next = with_output(ids, p.output_count, d);
@@ -129,7 +129,7 @@ fn queue(p: Parts, d: NodeId) -> Parts
 // The node is activated.
 fn activate(p: Parts, limit: u32, d: NodeId) -> Parts
     requires { ⌜ limit ≤ 128 ⌝ }
-    ensures { λ r. ⌜ ((u : Ui) → limit ≡ limitOf u → heardAs u r ≡ events.activate (heardAs u p) d) ⌝ }
+    ensures { λ r. ⌜ ((u : Ui) → limit ≡ limitOf u → withParts u r ≡ events.activate (withParts u p) d) ⌝ }
 {
     let interaction = p.interaction;
     if p.output_count < limit {
@@ -147,7 +147,7 @@ fn activate(p: Parts, limit: u32, d: NodeId) -> Parts
 // A release with a node, or none, under the pointer.
 fn release(p: Parts, limit: u32, hit: MaybeId) -> Parts
     requires { ⌜ limit ≤ 128 ⌝ }
-    ensures { λ r. ⌜ ((u : Ui) → limit ≡ limitOf u → heardAs u r ≡ releasedOn (heardAs u p) hit (p .interaction .pressed)) ⌝ }
+    ensures { λ r. ⌜ ((u : Ui) → limit ≡ limitOf u → withParts u r ≡ releasedOn (withParts u p) hit (p .interaction .pressed)) ⌝ }
 {
     let interaction = p.interaction;
     let pressed = interaction.pressed;
@@ -163,7 +163,7 @@ fn release(p: Parts, limit: u32, hit: MaybeId) -> Parts
 }
 
 // The field after a key.
-fn keyed(f: Field, key: Key) -> Field
+fn keyed_field(f: Field, key: Key) -> Field
     ensures { λ r. ⌜ r ≡ keyedField key f ⌝ }
 {
     match key {
@@ -174,7 +174,7 @@ fn keyed(f: Field, key: Key) -> Field
 
 // Whether an edit changed something: length or caret.
 fn has_changed(f: Field, g: Field) -> bool
-    ensures { λ r. ⌜ r ≡ events.changed f g ⌝ }
+    ensures { λ r. ⌜ r ≡ events.hasChanged f g ⌝ }
 {
     !((f.len == g.len) & (f.cursor == g.cursor))
 }
@@ -193,14 +193,14 @@ fn folded(a: Interaction, d: NodeId, key: Key, changed: bool) -> Interaction
 
 // A key on the node's field, where it has one.
 fn edit_field(p: Parts, d: NodeId, key: Key) -> Parts
-    ensures { λ r. ⌜ ((u : Ui) → heardAs u r ≡ events.editField (heardAs u p) d key (fieldOf d (p .fields))) ⌝ }
+    ensures { λ r. ⌜ ((u : Ui) → withParts u r ≡ events.editField (withParts u p) d key (fieldOf d (p .fields))) ⌝ }
 {
     let own = p.fields;
     match fields::field_place(own, d) {
         Place::Nowhere => p,
         Place::At(i) => {
             let f = fields::field_at(own, i);
-            let g = keyed(f, key);
+            let g = keyed_field(f, key);
             let next = fields::with_field(own, i, g);
             let interaction = p.interaction;
             let after = folded(interaction, d, key, has_changed(f, g));
@@ -245,7 +245,7 @@ fn focused(u: Ui) -> bool
 
 // A key on the field of the node in focus, where the node is live.
 fn edit_focused(p: Parts, live: bool, key: Key) -> Parts
-    ensures { λ r. ⌜ ((u : Ui) → live ≡ hasLive u (p .interaction .focus) → heardAs u r ≡ editFocused (heardAs u p) key (p .interaction .focus)) ⌝ }
+    ensures { λ r. ⌜ ((u : Ui) → live ≡ hasLive u (p .interaction .focus) → withParts u r ≡ editFocused (withParts u p) key (p .interaction .focus)) ⌝ }
 {
     let interaction = p.interaction;
     let focus = interaction.focus;
@@ -261,8 +261,8 @@ fn edit_focused(p: Parts, live: bool, key: Key) -> Parts
 }
 
 // Where the pointer is after an event.
-pub(crate) fn place(pointer: Pointer, event: UiEvent) -> Pointer
-    ensures { λ r. ⌜ ((u : Ui) (hit : MaybeId) → u .interaction .pointer ≡ pointer → events.heard u hit event .interaction .pointer ≡ r) ⌝ }
+pub(crate) fn pointer_after(pointer: Pointer, event: UiEvent) -> Pointer
+    ensures { λ r. ⌜ ((u : Ui) (hit : MaybeId) → u .interaction .pointer ≡ pointer → events.appliedEvent u hit event .interaction .pointer ≡ r) ⌝ }
 {
     match event {
         UiEvent::PointerMoved { x, y } => Pointer { x: x, y: y },
@@ -274,9 +274,9 @@ pub(crate) fn place(pointer: Pointer, event: UiEvent) -> Pointer
 }
 
 // An event, with the node that is under the pointer.
-pub(crate) fn heard(u: Ui, hit: MaybeId, event: UiEvent) -> Parts
+pub(crate) fn applied_event(u: Ui, hit: MaybeId, event: UiEvent) -> Parts
     requires { ⌜ limitOf u ≤ 128 ⌝ }
-    ensures { λ r. ⌜ heardAs u r ≡ events.heard u hit event ⌝ }
+    ensures { λ r. ⌜ withParts u r ≡ events.appliedEvent u hit event ⌝ }
 {
     let p = parts_of(u);
     let live = focused(u);

@@ -25,7 +25,7 @@ use tree::input;
 use tree::rules;
 use tree::wearing;
 
-// What the tree hears: pixels, a press and a release of the one button, a typed character, an edit.
+// An event: the pointer at a pixel, a press and a release of the one button, a typed character, an edit.
 pub enum UiEvent {
     PointerMoved { x: i32, y: i32 },
     PointerPressed,
@@ -72,9 +72,9 @@ pub fn handle(mut u: Ui, event: UiEvent) -> Changed
     }
     let interaction = u.interaction;
     let pointer = interaction.pointer;
-    let pixel = events::place(pointer, event);
+    let pixel = events::pointer_after(pointer, event);
     let hit = input::hit_test(u, pixel);
-    let parts = events::heard(u, hit, event);
+    let parts = events::applied_event(u, hit, event);
     let after = parts.interaction;
     let fields = parts.fields;
     let outputs = parts.outputs;

@@ -23,8 +23,8 @@ enum-known-i c = search needs
 field-at-requires : tie.Need-field-at-requires
 field-at-requires c κs = search needs
 
-keyed-requires : tie.Need-keyed-requires
-keyed-requires c κs = search needs
+keyed-field-requires : tie.Need-keyed-field-requires
+keyed-field-requires c κs = search needs
 
 with-field-requires : tie.Need-with-field-requires
 with-field-requires c κs = search needs
@@ -46,8 +46,8 @@ returns-2 c w = let p = c .before .before .before .before .before .before .befor
     let key = c .before .before .before .before .before .before .before .before .before .before .before .args .key in
     let i = c .before .before .before .before .before .before .before .i .given .0 .0 in
     let h : placeOf d (p .fields) ≡ At i = sym (c .before .before .before .before .before .before .before .before .before .field-place .ensures .0) ∙ c .before .before .before .before .before .before .before .i .given .1 in
-    let fs : c .before .before .before .with-field .result ≡ changeFirst (owns d) (keyedField key) (p .fields) = c .before .before .before .with-field .ensures ∙ ap (set (p .fields) i) (c .before .before .before .before .keyed .ensures ∙ ap (keyedField key) (c .before .before .before .before .before .field-at .ensures)) ∙ the-place-is-changed d (keyedField key) (p .fields) i h in
-    rw (← (c .before .before .before .before .before .before .before .before .before .field-place .ensures .1), c .before .before .before .before .before .before .before .i .given .1, ← fs, ← (c .before .before .before .before .before .field-at .ensures), ← (c .before .before .before .before .keyed .ensures), ← (c .before .has-changed .ensures), ← (c .folded .ensures))
+    let fs : c .before .before .before .with-field .result ≡ changeFirst (owns d) (keyedField key) (p .fields) = c .before .before .before .with-field .ensures ∙ ap (set (p .fields) i) (c .before .before .before .before .keyed-field .ensures ∙ ap (keyedField key) (c .before .before .before .before .before .field-at .ensures)) ∙ the-place-is-changed d (keyedField key) (p .fields) i h in
+    rw (← (c .before .before .before .before .before .before .before .before .before .field-place .ensures .1), c .before .before .before .before .before .before .before .i .given .1, ← fs, ← (c .before .before .before .before .before .field-at .ensures), ← (c .before .before .before .before .keyed-field .ensures), ← (c .before .has-changed .ensures), ← (c .folded .ensures))
 
 pub edit-field-spec : {M : Type 1} → statement M
 edit-field-spec =
@@ -57,7 +57,7 @@ edit-field-spec =
     enum-told
     enum-known-i
     field-at-requires
-    keyed-requires
+    keyed-field-requires
     with-field-requires
     has-changed-requires
     folded-requires

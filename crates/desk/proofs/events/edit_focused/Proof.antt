@@ -5,7 +5,7 @@ use mathlib.Core.Bool.{Bool}
 use Rattle.tree.specs.Fields.{fieldOf}
 use Rattle.tree.specs.Trees.{withHeard}
 use Rattle.desk.specs.Events.{editField, editFocused}
-use Rattle.desk.specs.Parts.{heardAs, hasLive}
+use Rattle.desk.specs.Parts.{withParts, hasLive}
 use borrow.Author.Needs.{needs}
 use Rattle.desk.proofs.events.edit_focused.Statement.{statement}
 use Rattle.desk.proofs.events.edit_focused.Tie as tie
@@ -21,17 +21,17 @@ edit-field-requires c κs = search needs
 
 returns : tie.Need-returns
 unfolding withHeard
-returns c w e = let u = heardAs w (c .before .before .before .before .before .before .args .p) in
+returns c w e = let u = withParts w (c .before .before .before .before .before .before .args .p) in
     let key = c .before .before .before .before .before .before .args .key in
     let d = c .before .before .before .focus .given .0 .0 in
     c .edit-field .ensures w ∙ ap (λ (b : Bool). pick b (editField u d key (fieldOf d (u .fields))) u) (sym (c .before .if1 .taken) ∙ e ∙ ap (hasLive w) (c .before .before .before .focus .given .1)) ∙ ap (editFocused u key) (sym (c .before .before .before .focus .given .1))
 
 returns-2 : tie.Need-returns-2
-returns-2 c w e = ap (editFocused (heardAs w (c .before .before .before .args .p)) (c .before .before .before .args .key)) (sym (c .enum-told .given .1))
+returns-2 c w e = ap (editFocused (withParts w (c .before .before .before .args .p)) (c .before .before .before .args .key)) (sym (c .enum-told .given .1))
 
 returns-3 : tie.Need-returns-3
 unfolding withHeard
-returns-3 c w e = let u = heardAs w (c .before .before .before .before .before .args .p) in
+returns-3 c w e = let u = withParts w (c .before .before .before .before .before .args .p) in
     let key = c .before .before .before .before .before .args .key in
     let d = c .before .before .focus .given .0 .0 in
     ap (λ (b : Bool). pick b (editField u d key (fieldOf d (u .fields))) u) (sym (c .if1 .left) ∙ e ∙ ap (hasLive w) (c .before .before .focus .given .1)) ∙ ap (editFocused u key) (sym (c .before .before .focus .given .1))

@@ -5,7 +5,7 @@ use mathlib.Core.Bool.{Bool}
 use Rattle.field.specs.declared.MaybeId.the-variants.{Absent}
 use Rattle.tree.specs.Trees.{withInteraction, withHeard}
 use Rattle.desk.specs.Events.{pressedOn, activate, releasedOn}
-use Rattle.desk.specs.Parts.{heardAs}
+use Rattle.desk.specs.Parts.{withParts}
 use borrow.Author.Needs.{needs}
 use Rattle.desk.proofs.events.release.Statement.{statement}
 use Rattle.desk.proofs.events.release.Tie as tie
@@ -27,7 +27,7 @@ activate-requires c κs = search needs
 
 returns : tie.Need-returns
 unfolding withHeard
-returns c w e = let u = heardAs w (c .before .before .before .before .before .before .before .args .p) in
+returns c w e = let u = withParts w (c .before .before .before .before .before .before .before .args .p) in
     let hit = c .before .before .before .before .before .before .before .args .hit in
     let d = c .before .before .before .before .pressed .given .0 .0 in
     c .activate .ensures w e ∙ ap (λ (b : Bool). pick b (activate u d) (withInteraction u (pressedOn (u .interaction) Absent))) (sym (c .before .if1 .taken) ∙ c .before .before .is-id .ensures) ∙ ap (releasedOn u hit) (sym (c .before .before .before .before .pressed .given .1))
@@ -37,11 +37,11 @@ press-requires-2 c κs = search needs
 
 returns-2 : tie.Need-returns-2
 unfolding withHeard
-returns-2 c w e = c .press .ensures w ∙ ap (releasedOn (heardAs w (c .before .before .before .before .args .p)) (c .before .before .before .before .args .hit)) (sym (c .before .enum-told .given .1))
+returns-2 c w e = c .press .ensures w ∙ ap (releasedOn (withParts w (c .before .before .before .before .args .p)) (c .before .before .before .before .args .hit)) (sym (c .before .enum-told .given .1))
 
 returns-3 : tie.Need-returns-3
 unfolding withHeard
-returns-3 c w e = let u = heardAs w (c .before .before .before .before .before .before .before .args .p) in
+returns-3 c w e = let u = withParts w (c .before .before .before .before .before .before .before .args .p) in
     let hit = c .before .before .before .before .before .before .before .args .hit in
     let d = c .before .before .before .before .pressed .given .0 .0 in
     c .press2 .ensures w ∙ ap (λ (b : Bool). pick b (activate u d) (withInteraction u (pressedOn (u .interaction) Absent))) (sym (c .before .if1 .left) ∙ c .before .before .is-id .ensures) ∙ ap (releasedOn u hit) (sym (c .before .before .before .before .pressed .given .1))

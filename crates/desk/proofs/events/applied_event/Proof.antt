@@ -6,8 +6,8 @@ use Rattle.tree.specs.Trees.{withHeard}
 use Rattle.desk.specs.Parts.{hasLive}
 use Rattle.desk.specs.declared.Parts.{Parts}
 use borrow.Author.Needs.{needs}
-use Rattle.desk.proofs.events.heard.Statement.{statement}
-use Rattle.desk.proofs.events.heard.Tie as tie
+use Rattle.desk.proofs.events.applied_event.Statement.{statement}
+use Rattle.desk.proofs.events.applied_event.Tie as tie
 
 parts-of-requires : tie.Need-parts-of-requires
 parts-of-requires c κs = search needs
@@ -65,8 +65,8 @@ returns-5 : tie.Need-returns-5
 unfolding withHeard
 returns-5 c = rw (c .before .before .event3 .given .1) (rw (c .before .before .before .before .before .before .parts-of .ensures) at (c .edit-focused2 .ensures (c .before .before .before .before .before .before .before .args .u) (c .before .before .before .before .before .focused .ensures ∙ ap (λ (p : Parts). hasLive (c .before .before .before .before .before .before .before .args .u) (p .interaction .focus)) (sym (c .before .before .before .before .before .before .parts-of .ensures)))))
 
-pub heard-spec : {M : Type 1} → statement M
-heard-spec =
+pub applied-event-spec : {M : Type 1} → statement M
+applied-event-spec =
     tie.close
     (tie.spec
     parts-of-requires

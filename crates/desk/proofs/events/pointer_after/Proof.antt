@@ -4,10 +4,10 @@ use mir.Syntax.{w32}
 use mir.ValLaws.{toZ-ofZ}
 use Rattle.tree.specs.Trees.{withInteraction}
 use Rattle.desk.specs.declared.Key.the-variants.{Char, Op}
-use Rattle.desk.proofs.HeardLaws.{release-keeps-the-pointer, key-keeps-the-pointer}
+use Rattle.desk.proofs.EventLaws.{release-keeps-the-pointer, key-keeps-the-pointer}
 use borrow.Author.Needs.{needs}
-use Rattle.desk.proofs.events.place.Statement.{statement}
-use Rattle.desk.proofs.events.place.Tie as tie
+use Rattle.desk.proofs.events.pointer_after.Statement.{statement}
+use Rattle.desk.proofs.events.pointer_after.Tie as tie
 
 enum-known-event : tie.Need-enum-known-event
 enum-known-event c = search needs
@@ -41,8 +41,8 @@ returns-4 c u hit e = rw (c .enum-told3 .given .1) (key-keeps-the-pointer u (Cha
 returns-5 : tie.Need-returns-5
 returns-5 c u hit e = rw (c .enum-told4 .given .1) (key-keeps-the-pointer u (Op (c .enum-told4 .given .0 .0)) ∙ e)
 
-pub place-spec : {M : Type 1} → statement M
-place-spec =
+pub pointer-after-spec : {M : Type 1} → statement M
+pointer-after-spec =
     tie.close
     (tie.spec
     enum-known-event

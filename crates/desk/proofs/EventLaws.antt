@@ -4,7 +4,6 @@ use Prim.Native.Nat.{ℕ}
 use mathlib.Core.Path.{_≡_, refl, sym, ap, _∙_}
 use mathlib.Core.Bool.{Bool, true, false}
 use lib.Dec.{ltb}
-use lib.IntN.{ℤ}
 use Rattle.field.specs.declared.NodeId.{NodeId}
 use Rattle.field.specs.declared.Field.{Field}
 use Rattle.field.specs.declared.MaybeId.{MaybeId}
@@ -18,7 +17,7 @@ use Rattle.tree.specs.Trees.{limitOf, withFields, withInteraction, withWaiting}
 use Rattle.tree.specs.declared.Interaction.{Interaction}
 use Rattle.tree.specs.declared.Pointer.{Pointer}
 use Rattle.tree.specs.declared.Ui.{Ui}
-use Rattle.desk.specs.Events.{activated, activate, foldedBy, changed, keyedField, editFold, editField, editFocused, releasedOn, heard, hitOf}
+use Rattle.desk.specs.Events.{activated, activate, foldedBy, hasChanged, keyedField, editFold, editField, editFocused, releasedOn, appliedEvent, hitOf}
 use Rattle.desk.specs.declared.UiEvent.{UiEvent}
 use Rattle.desk.specs.declared.UiEvent.the-variants.{PointerMoved, PointerPressed, PointerReleased, TextEntered, Edit}
 use Rattle.desk.specs.declared.Key.{Key}
@@ -56,33 +55,29 @@ edit-stays : (u : Ui) (d : NodeId) (key : Key) (m : Maybe Field) → Stays u (ed
 unfolding withInteraction withFields
 edit-stays u d key nothing = nothing-moves u
 edit-stays u d key (just f) =
-    record { slots = refl; layout = refl; pointer = fold-stays (changed f (keyedField key f)) (u .interaction) (editFold u d key) }
+    record { slots = refl; layout = refl; pointer = fold-stays (hasChanged f (keyedField key f)) (u .interaction) (editFold u d key) }
 
 key-stays : (u : Ui) (key : Key) (m : MaybeId) → Stays u (editFocused u key m)
 key-stays u key Absent = nothing-moves u
 key-stays u key (Present d) =
     either-stays u (isLive (limitOf u) (u .slots) d) _ _ (edit-stays u d key (fieldOf d (u .fields))) (nothing-moves u)
 
-pub heard-slots : (u : Ui) (hit : MaybeId) (event : UiEvent) → (heard u hit event .slots ≡ u .slots) × (heard u hit event .layout ≡ u .layout)
+pub event-keeps-slots-and-boxes : (u : Ui) (hit : MaybeId) (event : UiEvent) → (appliedEvent u hit event .slots ≡ u .slots) × (appliedEvent u hit event .layout ≡ u .layout)
 unfolding withInteraction
-heard-slots u hit (PointerMoved x′ y′) = (refl, refl)
-heard-slots u hit PointerPressed = (refl, refl)
-heard-slots u hit PointerReleased = let s = release-stays u hit (u .interaction .pressed) in (s .slots, s .layout)
-heard-slots u hit (TextEntered ch) = let s = key-stays u (Char ch) (u .interaction .focus) in (s .slots, s .layout)
-heard-slots u hit (Edit op) = let s = key-stays u (Op op) (u .interaction .focus) in (s .slots, s .layout)
+event-keeps-slots-and-boxes u hit (PointerMoved x′ y′) = (refl, refl)
+event-keeps-slots-and-boxes u hit PointerPressed = (refl, refl)
+event-keeps-slots-and-boxes u hit PointerReleased = let s = release-stays u hit (u .interaction .pressed) in (s .slots, s .layout)
+event-keeps-slots-and-boxes u hit (TextEntered ch) = let s = key-stays u (Char ch) (u .interaction .focus) in (s .slots, s .layout)
+event-keeps-slots-and-boxes u hit (Edit op) = let s = key-stays u (Op op) (u .interaction .focus) in (s .slots, s .layout)
 
-pub release-keeps-the-pointer : (u : Ui) (hit : MaybeId) → heard u hit PointerReleased .interaction .pointer ≡ u .interaction .pointer
+pub release-keeps-the-pointer : (u : Ui) (hit : MaybeId) → appliedEvent u hit PointerReleased .interaction .pointer ≡ u .interaction .pointer
 release-keeps-the-pointer u hit = release-stays u hit (u .interaction .pressed) .pointer
 
 pub key-keeps-the-pointer : (u : Ui) (key : Key) → editFocused u key (u .interaction .focus) .interaction .pointer ≡ u .interaction .pointer
 key-keeps-the-pointer u key = key-stays u key (u .interaction .focus) .pointer
 
--- An event that moves the pointer takes no notice of the hit.
-pub heard-moved : (u : Ui) (hit hit′ : MaybeId) (x′ y′ : ℤ) → heard u hit (PointerMoved x′ y′) ≡ heard u hit′ (PointerMoved x′ y′)
-heard-moved u hit hit′ x′ y′ = refl
-
 -- The hit may be taken where the pointer is after the event: one that moves it takes no notice of the hit.
-pub hit-once : (u : Ui) (event : UiEvent) (q : Pointer) → q ≡ heard u (hitOf u) event .interaction .pointer → heard u (hitOf u) event ≡ heard u (hitTest u q) event
+pub hit-once : (u : Ui) (event : UiEvent) (q : Pointer) → q ≡ appliedEvent u (hitOf u) event .interaction .pointer → appliedEvent u (hitOf u) event ≡ appliedEvent u (hitTest u q) event
 unfolding hitOf withInteraction
 hit-once u (PointerMoved x′ y′) q e = refl
 hit-once u PointerPressed q e = rw e
@@ -96,8 +91,8 @@ unfolding hitTest
 hit-of u v q a b = rw (a, b)
 
 -- So may the hover after it.
-pub hover-once : (u : Ui) (event : UiEvent) (q : Pointer) → q ≡ heard u (hitOf u) event .interaction .pointer → hitOf (heard u (hitOf u) event) ≡ hitTest u q
+pub hover-once : (u : Ui) (event : UiEvent) (q : Pointer) → q ≡ appliedEvent u (hitOf u) event .interaction .pointer → hitOf (appliedEvent u (hitOf u) event) ≡ hitTest u q
 unfolding hitOf
 hover-once u event q e =
-    let s = heard-slots u (hitOf u) event in
-    hit-of u (heard u (hitOf u) event) _ (s .0) (s .1) ∙ ap (hitTest u) (sym e)
+    let s = event-keeps-slots-and-boxes u (hitOf u) event in
+    hit-of u (appliedEvent u (hitOf u) event) _ (s .0) (s .1) ∙ ap (hitTest u) (sym e)

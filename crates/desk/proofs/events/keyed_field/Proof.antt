@@ -1,7 +1,7 @@
 -- By the kind of the key. Assumes nothing.
 use borrow.Author.Needs.{needs}
-use Rattle.desk.proofs.events.keyed.Statement.{statement}
-use Rattle.desk.proofs.events.keyed.Tie as tie
+use Rattle.desk.proofs.events.keyed_field.Statement.{statement}
+use Rattle.desk.proofs.events.keyed_field.Tie as tie
 
 enum-known-key : tie.Need-enum-known-key
 enum-known-key c = search needs
@@ -21,7 +21,7 @@ returns c = rw (c .before .before .key .given .1) (c .insert .ensures)
 returns-2 : tie.Need-returns-2
 returns-2 c = rw (c .before .before .key2 .given .1) (c .edit .ensures)
 
-pub keyed-spec : {M : Type 1} → statement M
-keyed-spec =
+pub keyed-field-spec : {M : Type 1} → statement M
+keyed-field-spec =
     tie.close
     (tie.spec enum-known-key insert-requires enum-known-key-2 edit-requires returns returns-2)
