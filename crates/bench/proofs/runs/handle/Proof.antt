@@ -1,20 +1,20 @@
 -- n turns. Assumes nothing.
 use Prim.Native.Nat.{_-_}
 use borrow.Author.Needs.{needs}
-use Rattle.bench.proofs.runs.key.Statement.{statement}
-use Rattle.bench.proofs.runs.key.Tie as tie
+use Rattle.bench.proofs.runs.handle.Statement.{statement}
+use Rattle.bench.proofs.runs.handle.Tie as tie
 
 abbrev Inv-loop : tie.InvT-loop
-Inv-loop n acc all₀ out₀ i₀ all out i = Unit {0}
+Inv-loop shape kind n acc all₀ out₀ i₀ all out i = Unit {0}
 
 abbrev μ-loop : tie.MeasureT-loop
-μ-loop n acc all₀ out₀ i₀ all out i = n - i
+μ-loop shape kind n acc all₀ out₀ i₀ all out i = n - i
 
 loop-holds : tie.Need-loop-holds Inv-loop μ-loop
 loop-holds c = search needs
 
-typed-requires : tie.Need-typed-requires Inv-loop μ-loop
-typed-requires c κs = search needs
+event-requires : tie.Need-event-requires Inv-loop μ-loop
+event-requires c κs = search needs
 
 handle-requires : tie.Need-handle-requires Inv-loop μ-loop
 handle-requires c κs = search needs
@@ -37,14 +37,14 @@ loop-again c = search needs
 returns : tie.Need-returns Inv-loop μ-loop
 returns c = search needs
 
-pub key-spec : {M : Type 1} → statement M
-key-spec =
+pub handle-spec : {M : Type 1} → statement M
+handle-spec =
     tie.close
     (tie.spec
     Inv-loop
     μ-loop
     loop-holds
-    typed-requires
+    event-requires
     handle-requires
     verdict-requires
     mix-requires

@@ -1,23 +1,23 @@
 -- n turns. Assumes nothing.
 use Prim.Native.Nat.{_-_}
 use borrow.Author.Needs.{needs}
-use Rattle.bench.proofs.runs.press_release.Statement.{statement}
-use Rattle.bench.proofs.runs.press_release.Tie as tie
+use Rattle.bench.proofs.runs.solve.Statement.{statement}
+use Rattle.bench.proofs.runs.solve.Tie as tie
 
 abbrev Inv-loop : tie.InvT-loop
-Inv-loop n acc all₀ out₀ i₀ all out i = Unit {0}
+Inv-loop clean n acc all₀ out₀ i₀ all out i = Unit {0}
 
 abbrev μ-loop : tie.MeasureT-loop
-μ-loop n acc all₀ out₀ i₀ all out i = n - i
+μ-loop clean n acc all₀ out₀ i₀ all out i = n - i
 
 loop-holds : tie.Need-loop-holds Inv-loop μ-loop
 loop-holds c = search needs
 
-button-requires : tie.Need-button-requires Inv-loop μ-loop
-button-requires c κs = search needs
+view-requires : tie.Need-view-requires Inv-loop μ-loop
+view-requires c κs = search needs
 
-handle-requires : tie.Need-handle-requires Inv-loop μ-loop
-handle-requires c κs = search needs
+solve-requires : tie.Need-solve-requires Inv-loop μ-loop
+solve-requires c κs = search needs
 
 verdict-requires : tie.Need-verdict-requires Inv-loop μ-loop
 verdict-requires c κs = search needs
@@ -37,15 +37,15 @@ loop-again c = search needs
 returns : tie.Need-returns Inv-loop μ-loop
 returns c = search needs
 
-pub press-release-spec : {M : Type 1} → statement M
-press-release-spec =
+pub solve-spec : {M : Type 1} → statement M
+solve-spec =
     tie.close
     (tie.spec
     Inv-loop
     μ-loop
     loop-holds
-    button-requires
-    handle-requires
+    view-requires
+    solve-requires
     verdict-requires
     mix-requires
     add-i
