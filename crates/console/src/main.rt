@@ -16,7 +16,7 @@ use tree::UiLimits;
 use waiting::Waiting;
 
 // Tells a person at a terminal how to go on. Standard output carries the answers alone, so that this goes to standard error.
-pub fn greet() {
+fn greet() {
     if libc::isatty(STDIN_FILENO) == 1 {
         io::write_all(
             STDERR_FILENO,
@@ -25,8 +25,7 @@ pub fn greet() {
     }
 }
 
-// The line of an answer and what goes on: the tree in the last answer, and the patches that wait. A script is at most 1,048,576 bytes long,
-// and each line takes one or more of them.
+// The tree goes on in the last answer. A script is at most 1,048,576 bytes long, and each line takes one or more of them.
 fn main() {
     greet();
     let mut c = Ui::new(UiLimits { nodes: 1 });
