@@ -1,7 +1,7 @@
 // Every call of document 01 that takes a tree, asked of one tree, and what its answer comes to.
 use crate::good;
-use crate::same;
 use arithmetic::fold::StateHash;
+use damage::same;
 use desk::Fingerprint;
 use desk::UiEvent;
 use field::NodeId;

@@ -1,5 +1,5 @@
 // Every edit of one field, lent and by value, and what the two answers come to.
-use crate::same::same_field;
+use damage::same::same_field;
 use field::EditOp;
 use field::Edited;
 use field::Field;

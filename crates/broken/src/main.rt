@@ -3,11 +3,9 @@
 // edited where they are, by lending them, and by value: the two are compared in number and in every byte, and with what the rules for one field
 // ask. A line an edit.
 mod asking;
-mod damage;
 mod good;
 mod lending;
 mod rows;
-mod same;
 mod samples;
 
 use report::put;

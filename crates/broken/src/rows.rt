@@ -1,15 +1,14 @@
 // The rows: a link rule, a tree that breaks it alone, and a tree next to that which breaks nothing.
 use crate::asking;
 use crate::asking::Answer;
-use crate::damage;
-use crate::damage::Dress;
-use crate::damage::Edits;
-use crate::damage::Link;
-use crate::damage::Mark;
-use crate::damage::Part;
 use crate::good;
 use crate::good::Base;
-use crate::same;
+use damage::Dress;
+use damage::Edits;
+use damage::Link;
+use damage::Mark;
+use damage::Part;
+use damage::same;
 use field::NodeId;
 use report::put;
 use report::put_number;

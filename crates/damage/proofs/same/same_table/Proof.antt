@@ -1,8 +1,8 @@
 -- The loop ends after 16 turns, and each index is below 16. Assumes nothing.
 use Prim.Native.Nat.{_-_}
 use borrow.Author.Needs.{needs}
-use Rattle.broken.proofs.same.same_table.Statement.{statement}
-use Rattle.broken.proofs.same.same_table.Tie as tie
+use Rattle.damage.proofs.same.same_table.Statement.{statement}
+use Rattle.damage.proofs.same.same_table.Tie as tie
 
 abbrev Inv-loop : tie.InvT-loop
 Inv-loop a b i₀ i = Unit {0}

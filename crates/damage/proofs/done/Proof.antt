@@ -1,8 +1,8 @@
 -- At most eight edits, one a turn. Assumes nothing.
 use Prim.Native.Nat.{_-_}
 use borrow.Author.Needs.{needs}
-use Rattle.broken.proofs.damage.done.Statement.{statement}
-use Rattle.broken.proofs.damage.done.Tie as tie
+use Rattle.damage.proofs.done.Statement.{statement}
+use Rattle.damage.proofs.done.Tie as tie
 
 abbrev Inv-loop : tie.InvT-loop
 Inv-loop list count out₀ i₀ out i = Unit {0}

@@ -82,7 +82,7 @@ fn same_maybe(a: MaybeId, b: MaybeId) -> bool {
     }
 }
 
-pub(crate) fn same_field(a: Field, b: Field) -> bool {
+pub fn same_field(a: Field, b: Field) -> bool {
     let s = a.bytes;
     let t = b.bytes;
     let counts = (a.len == b.len) & (a.cursor == b.cursor);
@@ -161,7 +161,7 @@ fn same_places(
     true
 }
 
-pub(crate) fn same(a: Ui, b: Ui) -> bool {
+pub fn same(a: Ui, b: Ui) -> bool {
     let slots = a.slots;
     let other_slots = b.slots;
     let boxes = a.layout;

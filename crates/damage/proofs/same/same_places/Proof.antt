@@ -1,8 +1,8 @@
 -- The loop ends after 128 turns, and each index is below the length of its arrays. Assumes nothing.
 use Prim.Native.Nat.{_-_}
 use borrow.Author.Needs.{needs}
-use Rattle.broken.proofs.same.same_places.Statement.{statement}
-use Rattle.broken.proofs.same.same_places.Tie as tie
+use Rattle.damage.proofs.same.same_places.Statement.{statement}
+use Rattle.damage.proofs.same.same_places.Tie as tie
 
 abbrev Inv-loop : tie.InvT-loop
 Inv-loop slots other-slots boxes other-boxes states other-states outputs other-outputs patches other-patches fields other-fields i₀ i =

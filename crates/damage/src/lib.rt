@@ -1,4 +1,6 @@
-// Damage: single numbers of a tree set to another value.
+// Damage, for the program `broken`: single numbers of a tree set to another value; and whether two trees are the same in every place.
+pub mod same;
+
 use field::Field;
 use field::MaybeId;
 use field::NodeId;
@@ -62,7 +64,7 @@ pub struct Edits {
 }
 
 impl Edits {
-    pub(crate) fn none() -> Edits {
+    pub fn none() -> Edits {
         Edits {
             list: [Edit {
                 part: Part::Nothing,
@@ -74,7 +76,7 @@ impl Edits {
     }
 
     // One more.
-    pub(crate) fn set(mut self, part: Part, at: u32, value: u32) -> Edits {
+    pub fn set(mut self, part: Part, at: u32, value: u32) -> Edits {
         let k = self.count as usize;
         if k < 8 {
             self.list[k] = Edit {
@@ -88,12 +90,12 @@ impl Edits {
     }
 
     // One more: a link of slot `at`.
-    pub(crate) fn link(self, link: Link, at: u32, value: u32) -> Edits {
+    pub fn link(self, link: Link, at: u32, value: u32) -> Edits {
         self.set(Part::OfSlot(link), at, value)
     }
 
     // One more: a mark of field `at`.
-    pub(crate) fn mark(self, mark: Mark, at: u32, value: u32) -> Edits {
+    pub fn mark(self, mark: Mark, at: u32, value: u32) -> Edits {
         self.set(Part::OfField(mark), at, value)
     }
 }
@@ -262,7 +264,7 @@ fn edited(u: Ui, e: Edit) -> Ui {
 }
 
 // The tree after all edits.
-pub(crate) fn done(u: Ui, edits: Edits) -> Ui {
+pub fn done(u: Ui, edits: Edits) -> Ui {
     let list = edits.list;
     let count = edits.count as usize;
     let mut out = u;
