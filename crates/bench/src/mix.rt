@@ -30,10 +30,7 @@ pub(crate) fn refused(word: Refusal) -> u64 {
 }
 
 pub(crate) fn verdict(v: Verdict) -> u64 {
-    match v {
-        Verdict::Accepted => 0,
-        Verdict::Refused(word) => refused(word),
-    }
+    v.number() as u64 * 16777216
 }
 
 // A number that is not negative, else 0.

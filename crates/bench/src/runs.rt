@@ -1,5 +1,5 @@
-// The kinds of call that give the next tree. Each has one loop in which the call stands by itself, since a tree that is handed through
-// further functions would be copied once more for each.
+// The kinds of call that give the next tree. Each call stands by itself in its loop, since a tree that is handed through further functions
+// would be copied once more for each.
 use crate::build::view;
 use crate::kinds;
 use crate::mix;
@@ -152,44 +152,12 @@ fn make_field(u: Ui, k: u32, n: u32, acc: u64) -> Ran {
     }
 }
 
-// With nothing changed since the last pass.
-fn clean_solve(u: Ui, n: u32, acc: u64) -> Ran {
-    let mut all = acc;
-    let mut out = u;
-    for _i in 0..n {
-        let c = out.solve(view(true));
-        let v = c.verdict;
-        all = mix(all, verdict(v));
-        out = c.tree;
-    }
-    Ran {
-        tree: out,
-        acc: all,
-    }
-}
-
-// Two viewports in turn, so that each call is a pass.
-fn full_pass(u: Ui, n: u32, acc: u64) -> Ran {
+// With nothing changed since the last pass, or with two viewports in turn, so that each call is a pass.
+fn solve(u: Ui, clean: bool, n: u32, acc: u64) -> Ran {
     let mut all = acc;
     let mut out = u;
     for i in 0..n {
-        let c = out.solve(view(i % 2 == 1));
-        let v = c.verdict;
-        all = mix(all, verdict(v));
-        out = c.tree;
-    }
-    Ran {
-        tree: out,
-        acc: all,
-    }
-}
-
-// Away from the leaf in focus and back.
-fn pointer_moved(u: Ui, shape: u32, n: u32, acc: u64) -> Ran {
-    let mut all = acc;
-    let mut out = u;
-    for i in 0..n {
-        let c = desk::handle(out, shapes::moved(shape, i % 2 == 1));
+        let c = out.solve(view(clean | (i % 2 == 1)));
         let v = c.verdict;
         all = mix(all, verdict(v));
         out = c.tree;
@@ -207,22 +175,6 @@ fn button(i: u32) -> UiEvent {
     UiEvent::PointerReleased
 }
 
-// Press and release in turn.
-fn press_release(u: Ui, n: u32, acc: u64) -> Ran {
-    let mut all = acc;
-    let mut out = u;
-    for i in 0..n {
-        let c = desk::handle(out, button(i));
-        let v = c.verdict;
-        all = mix(all, verdict(v));
-        out = c.tree;
-    }
-    Ran {
-        tree: out,
-        acc: all,
-    }
-}
-
 fn typed(i: u32) -> UiEvent {
     if i % 2 == 0 {
         return UiEvent::TextEntered { ch: 55 };
@@ -232,12 +184,20 @@ fn typed(i: u32) -> UiEvent {
     }
 }
 
-// A character and a backspace in turn.
-fn key(u: Ui, n: u32, acc: u64) -> Ran {
+// Away from the leaf in focus and back, press and release, or a character and a backspace, in turn.
+fn event(shape: u32, kind: u32, i: u32) -> UiEvent {
+    match kind {
+        kinds::POINTER_MOVED => shapes::moved(shape, i % 2 == 1),
+        kinds::PRESS_RELEASE => button(i),
+        _ => typed(i),
+    }
+}
+
+fn handle(u: Ui, shape: u32, kind: u32, n: u32, acc: u64) -> Ran {
     let mut all = acc;
     let mut out = u;
     for i in 0..n {
-        let c = desk::handle(out, typed(i));
+        let c = desk::handle(out, event(shape, kind, i));
         let v = c.verdict;
         all = mix(all, verdict(v));
         out = c.tree;
@@ -279,11 +239,11 @@ pub(crate) fn run(u: Ui, shape: u32, kind: u32, n: u32, acc: u64) -> Ran {
         kinds::SET_PATCH_POOL => set_patch_pool(u, n, acc),
         kinds::MAKE_FIELD => make_field(u, shapes::focus(shape), n, acc),
         kinds::NO_FIELD => make_field(u, 12, n, acc),
-        kinds::CLEAN_SOLVE => clean_solve(u, n, acc),
-        kinds::FULL_PASS => full_pass(u, n, acc),
-        kinds::POINTER_MOVED => pointer_moved(u, shape, n, acc),
-        kinds::PRESS_RELEASE => press_release(u, n, acc),
-        kinds::KEY => key(u, n, acc),
+        kinds::CLEAN_SOLVE => solve(u, true, n, acc),
+        kinds::FULL_PASS => solve(u, false, n, acc),
+        kinds::POINTER_MOVED | kinds::PRESS_RELEASE | kinds::KEY => {
+            handle(u, shape, kind, n, acc)
+        }
         kinds::OUTPUT => output(u, n, acc),
         _ => Ran { tree: u, acc: acc },
     }

@@ -1,11 +1,12 @@
 // One call, read from a line.
 use crate::styles;
-use crate::words;
-use crate::words::same;
-use crate::words::word;
+use check::same;
 use desk::UiEvent;
 use field::EditOp;
 use field::NodeId;
+use report::words;
+use report::words::place;
+use report::words::word;
 use text::Measured;
 use tree::StatePatch;
 use tree::Style;
@@ -84,7 +85,7 @@ impl Call {
 fn bare(word: Word) -> Call {
     Call {
         word: word,
-        style: styles::none(),
+        style: styles::fresh(),
         table: [0u16; 16],
     }
 }
@@ -104,28 +105,16 @@ fn id(first: &[u8], second: &[u8]) -> IdRead {
 
 // A call of one word.
 fn alone(w: &[u8]) -> Word {
-    if same(w, b"pool") {
-        return Word::Pool;
+    match place(w, b"pool press release output focus pressed state") {
+        0 => Word::Pool,
+        1 => Word::Event(UiEvent::PointerPressed),
+        2 => Word::Event(UiEvent::PointerReleased),
+        3 => Word::Output,
+        4 => Word::Focus,
+        5 => Word::Pressed,
+        6 => Word::State,
+        _ => Word::Malformed,
     }
-    if same(w, b"press") {
-        return Word::Event(UiEvent::PointerPressed);
-    }
-    if same(w, b"release") {
-        return Word::Event(UiEvent::PointerReleased);
-    }
-    if same(w, b"output") {
-        return Word::Output;
-    }
-    if same(w, b"focus") {
-        return Word::Focus;
-    }
-    if same(w, b"pressed") {
-        return Word::Pressed;
-    }
-    if same(w, b"state") {
-        return Word::State;
-    }
-    Word::Malformed
 }
 
 fn edit(op: EditOp) -> Word {
@@ -134,25 +123,15 @@ fn edit(op: EditOp) -> Word {
 
 // The edit that a word names.
 fn edit_of(w: &[u8]) -> Word {
-    if same(w, b"backspace") {
-        return edit(EditOp::Backspace);
+    match place(w, b"backspace delete left right home end") {
+        0 => edit(EditOp::Backspace),
+        1 => edit(EditOp::Delete),
+        2 => edit(EditOp::Left),
+        3 => edit(EditOp::Right),
+        4 => edit(EditOp::Home),
+        5 => edit(EditOp::End),
+        _ => Word::Malformed,
     }
-    if same(w, b"delete") {
-        return edit(EditOp::Delete);
-    }
-    if same(w, b"left") {
-        return edit(EditOp::Left);
-    }
-    if same(w, b"right") {
-        return edit(EditOp::Right);
-    }
-    if same(w, b"home") {
-        return edit(EditOp::Home);
-    }
-    if same(w, b"end") {
-        return edit(EditOp::End);
-    }
-    Word::Malformed
 }
 
 fn new_of(w: &[u8]) -> Word {
@@ -191,62 +170,34 @@ fn measure_of(w: &[u8]) -> Word {
 
 // A call of two words.
 fn with_one(w: &[u8], a: &[u8]) -> Word {
-    if same(w, b"new") {
-        return new_of(a);
+    match place(w, b"new char edit absorb measure") {
+        0 => new_of(a),
+        1 => char_of(a),
+        2 => edit_of(a),
+        3 => absorb_of(a),
+        4 => measure_of(a),
+        _ => Word::Malformed,
     }
-    if same(w, b"char") {
-        return char_of(a);
-    }
-    if same(w, b"edit") {
-        return edit_of(a);
-    }
-    if same(w, b"absorb") {
-        return absorb_of(a);
-    }
-    if same(w, b"measure") {
-        return measure_of(a);
-    }
-    Word::Malformed
 }
 
-// A call on a node that may change the tree.
-fn changing(w: &[u8], d: NodeId) -> Word {
-    if same(w, b"insert") {
-        return Word::Insert(d);
+// A call on a node.
+fn on_node(w: &[u8], d: NodeId) -> Word {
+    match place(
+        w,
+        b"insert remove field text cursor metres rect live first next",
+    ) {
+        0 => Word::Insert(d),
+        1 => Word::Remove(d),
+        2 => Word::Field(d),
+        3 => Word::Text(d),
+        4 => Word::Cursor(d),
+        5 => Word::Metres(d),
+        6 => Word::Rect(d),
+        7 => Word::Live(d),
+        8 => Word::First(d),
+        9 => Word::Next(d),
+        _ => Word::Malformed,
     }
-    if same(w, b"remove") {
-        return Word::Remove(d);
-    }
-    if same(w, b"field") {
-        return Word::Field(d);
-    }
-    reading(w, d)
-}
-
-// A call on a node that only reads.
-fn reading(w: &[u8], d: NodeId) -> Word {
-    if same(w, b"text") {
-        return Word::Text(d);
-    }
-    if same(w, b"cursor") {
-        return Word::Cursor(d);
-    }
-    if same(w, b"metres") {
-        return Word::Metres(d);
-    }
-    if same(w, b"rect") {
-        return Word::Rect(d);
-    }
-    if same(w, b"live") {
-        return Word::Live(d);
-    }
-    if same(w, b"first") {
-        return Word::First(d);
-    }
-    if same(w, b"next") {
-        return Word::Next(d);
-    }
-    Word::Malformed
 }
 
 fn solve_of(a: &[u8], b: &[u8]) -> Word {
@@ -284,7 +235,7 @@ fn with_two(w: &[u8], a: &[u8], b: &[u8]) -> Word {
     let node = id(a, b);
     if node.ok {
         let d = node.id;
-        return changing(w, d);
+        return on_node(w, d);
     }
     Word::Malformed
 }
@@ -313,7 +264,7 @@ fn table_of(s: &[u8]) -> Call {
         let table = read.table;
         return Call {
             word: Word::Table(d),
-            style: styles::none(),
+            style: styles::fresh(),
             table: table,
         };
     }

@@ -1,11 +1,11 @@
 // The state digest: FNV-1a over all that the tree holds.
-use crate::line::cast_unsigned;
-use crate::words::at_most;
 use arithmetic::fold::StateHash;
 use arithmetic::scalar;
 use field::Field;
 use field::MaybeId;
 use field::NodeId;
+use report::line::cast_unsigned;
+use report::words::at_most;
 use tree::Align;
 use tree::Direction;
 use tree::Edges;

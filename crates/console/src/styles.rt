@@ -1,6 +1,8 @@
 // STYLE: nineteen words.
-use crate::words;
-use crate::words::word;
+use check::same;
+use report::words;
+use report::words::place;
+use report::words::word;
 use tree::Align;
 use tree::Direction;
 use tree::Edges;
@@ -39,20 +41,20 @@ struct BackgroundRead {
 }
 
 fn direction(s: &[u8]) -> DirectionRead {
-    if words::same(s, b"row") {
+    if same(s, b"row") {
         return DirectionRead {
             ok: true,
             direction: Direction::Row,
         };
     }
     DirectionRead {
-        ok: words::same(s, b"column"),
+        ok: same(s, b"column"),
         direction: Direction::Column,
     }
 }
 
 fn size(s: &[u8]) -> SizeRead {
-    if words::same(s, b"auto") {
+    if same(s, b"auto") {
         return SizeRead {
             ok: true,
             size: Size::Auto,
@@ -66,21 +68,23 @@ fn size(s: &[u8]) -> SizeRead {
 }
 
 fn align(s: &[u8]) -> AlignRead {
-    if words::same(s, b"start") {
-        return AlignRead {
+    match place(s, b"start center end") {
+        0 => AlignRead {
             ok: true,
             align: Align::Start,
-        };
-    }
-    if words::same(s, b"center") {
-        return AlignRead {
+        },
+        1 => AlignRead {
             ok: true,
             align: Align::Center,
-        };
-    }
-    AlignRead {
-        ok: words::same(s, b"end"),
-        align: Align::End,
+        },
+        2 => AlignRead {
+            ok: true,
+            align: Align::End,
+        },
+        _ => AlignRead {
+            ok: false,
+            align: Align::Start,
+        },
     }
 }
 
@@ -154,23 +158,6 @@ pub(crate) fn read(s: &[u8]) -> StyleRead {
 }
 
 // The style of a new node: what stands where a call has none.
-pub(crate) fn none() -> Style {
-    let edges = Edges {
-        left: 0,
-        right: 0,
-        top: 0,
-        bottom: 0,
-    };
-    Style {
-        direction: Direction::Row,
-        width: Size::Auto,
-        height: Size::Auto,
-        margin: edges,
-        padding: edges,
-        gap: 0,
-        grow: 0,
-        justify: Align::Start,
-        align_cross: Align::Start,
-        background: [0u8; 4],
-    }
+pub(crate) fn fresh() -> Style {
+    Style::sized(Size::Auto, Size::Auto)
 }

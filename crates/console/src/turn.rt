@@ -2,13 +2,13 @@
 use crate::calls::Call;
 use crate::calls::Word;
 use crate::digest;
-use crate::line::Line;
 use crate::waiting::Waiting;
 use arithmetic::fold::StateHash;
 use desk::Fingerprint;
 use field::MaybeId;
 use field::NodeId;
 use field::metres::Metres;
+use report::line::Line;
 use text::Measured;
 use text::refusal::Verdict;
 use tree::Ui;
@@ -23,15 +23,17 @@ use tree::answers::TextLength;
 
 // The line of a call that answers nothing but whether it was accepted.
 pub(crate) fn plain(v: Verdict) -> Line {
-    match v {
-        Verdict::Accepted => Line::accepted(),
-        Verdict::Refused(word) => Line::refused(word),
-    }
+    Line::answered(v.number())
+}
+
+// A space and an id.
+fn with_id(line: Line, d: NodeId) -> Line {
+    line.number(d.index as u64).number(d.generation)
 }
 
 fn new_id(n: NewId) -> Line {
     match n {
-        NewId::Id(d) => Line::accepted().id(d),
+        NewId::Id(d) => with_id(Line::accepted(), d),
         NewId::Refused(word) => Line::refused(word).text(b" 0 0"),
     }
 }
@@ -39,7 +41,7 @@ fn new_id(n: NewId) -> Line {
 fn neighbour(n: Neighbour) -> Line {
     match n {
         Neighbour::Nobody => Line::accepted().text(b" none"),
-        Neighbour::Node(d) => Line::accepted().id(d),
+        Neighbour::Node(d) => with_id(Line::accepted(), d),
         Neighbour::Refused(word) => Line::refused(word).text(b" 0 0"),
     }
 }
@@ -109,7 +111,10 @@ fn text(tree: Ui, d: NodeId) -> Line {
 }
 
 fn stored(id: MaybeId) -> Line {
-    Line::accepted().maybe(id)
+    match id {
+        MaybeId::Absent => Line::accepted().text(b" none"),
+        MaybeId::Present(d) => with_id(Line::accepted(), d),
+    }
 }
 
 // The calls that leave the tree as it is.

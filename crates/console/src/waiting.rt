@@ -1,7 +1,7 @@
 // The patches that wait for the next `pool`.
 use crate::calls::Word;
-use crate::line::Line;
 use crate::styles;
+use report::line::Line;
 use tree::StatePatch;
 
 // Up to 65 patches: one more than a pool may hold, so that a script can show its refusal. The last one's contents are never used.
@@ -13,7 +13,7 @@ pub struct Waiting {
 impl Waiting {
     pub(crate) fn none() -> Waiting {
         let patch = StatePatch {
-            style: styles::none(),
+            style: styles::fresh(),
             touches_layout: false,
         };
         Waiting {

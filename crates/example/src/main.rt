@@ -4,9 +4,6 @@ use field::NodeId;
 use field::metres::Metres;
 use libc::STDOUT_FILENO;
 use text::refusal;
-use tree::Align;
-use tree::Direction;
-use tree::Edges;
 use tree::Size;
 use tree::Style;
 use tree::Ui;
@@ -16,7 +13,7 @@ use tree::answers::NewId;
 
 fn main() {
     let made = Ui::new(UiLimits { nodes: 8 });
-    let inserted = made.tree.insert(root());
+    let inserted = made.tree.insert(Ui::root());
     let answer = inserted.answer;
     match answer {
         NewId::Refused(word) => show(Metres::Refused(word)),
@@ -30,14 +27,6 @@ fn main() {
             u = typed(u, b'5');
             show(desk::metres(u, draught));
         }
-    }
-}
-
-// A new tree's root.
-fn root() -> NodeId {
-    NodeId {
-        index: 0,
-        generation: 1,
     }
 }
 
@@ -84,24 +73,7 @@ fn pixels(n: i32) -> i64 {
     arithmetic::scalar::from_int(n)
 }
 
-// A box of so many pixels; all else as plain as can be.
+// A box of so many pixels; all else as a new node has it.
 fn sized(width: i32, height: i32) -> Style {
-    let none = Edges {
-        left: 0,
-        right: 0,
-        top: 0,
-        bottom: 0,
-    };
-    Style {
-        direction: Direction::Row,
-        width: Size::Px(pixels(width)),
-        height: Size::Px(pixels(height)),
-        margin: none,
-        padding: none,
-        gap: 0,
-        grow: 0,
-        justify: Align::Start,
-        align_cross: Align::Start,
-        background: [0u8; 4],
-    }
+    Style::sized(Size::Px(pixels(width)), Size::Px(pixels(height)))
 }

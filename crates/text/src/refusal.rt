@@ -1,6 +1,6 @@
 // The words that a call refuses by, and their numbers.
 ghost use mathlib.Core.Path.{_≡_};
-ghost use Rattle.text.specs.Refusal.{numberOf};
+ghost use Rattle.text.specs.Refusal.{numberOf, verdictOf};
 
 // Document 01's refusal words, in the order of their numbers.
 pub enum Refusal {
@@ -39,5 +39,17 @@ pub fn number(word: Refusal) -> u8
         Refusal::Empty => 9,
         Refusal::Unread => 10,
         Refusal::IllFormed => 11,
+    }
+}
+
+impl Verdict {
+    // The number of an answer: 0 where the call is accepted, else its word's.
+    pub fn number(self) -> u8
+        ensures { λ r. ⌜ r ≡ verdictOf self ⌝ }
+    {
+        match self {
+            Verdict::Accepted => 0,
+            Verdict::Refused(word) => number(word),
+        }
     }
 }

@@ -11,6 +11,7 @@ use Rattle.tree.specs.declared.LayoutSlot.{LayoutSlot}
 use Rattle.tree.specs.declared.StateSlot.{StateSlot}
 use Rattle.tree.specs.declared.StatePatch.{StatePatch}
 use Rattle.tree.specs.declared.Direction.the-variants.{Row}
+use Rattle.tree.specs.declared.Size.{Size}
 use Rattle.tree.specs.declared.Size.the-variants.{Auto}
 use Rattle.tree.specs.declared.Align.the-variants.{Start}
 
@@ -28,6 +29,10 @@ plainStyle bytes = record { direction = Row; width = Auto; height = Auto; margin
 -- A new node's style, box, layout slot and state slot.
 abbrev pub freshStyle : Style
 freshStyle = plainStyle (0 ∷ 0 ∷ 0 ∷ 0 ∷ [])
+
+-- That style with a width and a height.
+abbrev pub sizedStyle : Size → Size → Style
+sizedStyle w h = record { direction = Row; width = w; height = h; margin = noEdges; padding = noEdges; gap = pos 0; grow = 0; justify = Start; «align_cross» = Start; background = 0 ∷ 0 ∷ 0 ∷ 0 ∷ [] }
 
 abbrev pub noRect : Rect
 noRect = record { x = pos 0; y = pos 0; width = pos 0; height = pos 0 }

@@ -13,6 +13,7 @@ pub mod wearing;
 ghost use mathlib.Core.Path.{_≡_};
 ghost use Rattle.tree.specs.Answers.{standing, changedOf, insertedOf, rectOf, livenessOf, neighbourOf, fieldTextOf, caretAnswer};
 ghost use Rattle.tree.specs.Calls.{newTree, insert, remove, live, rect, firstChild, nextSibling, fieldText, fieldCursor, makeField, takeField, solve, sameView, setStyle, setStateTable, setPatchPool};
+ghost use Rattle.tree.specs.Styles.{sizedStyle};
 ghost use Rattle.tree.specs.Tests.{nothing};
 use answers::Caret;
 use answers::Changed;
@@ -73,6 +74,32 @@ pub struct Style {
     pub justify: Align,
     pub align_cross: Align,
     pub background: [u8; 4],
+}
+
+impl Style {
+    // A new node's style, but for its width and height.
+    pub fn sized(width: Size, height: Size) -> Style
+        ensures { λ r. ⌜ r ≡ sizedStyle width height ⌝ }
+    {
+        let none = Edges {
+            left: 0,
+            right: 0,
+            top: 0,
+            bottom: 0,
+        };
+        Style {
+            direction: Direction::Row,
+            width: width,
+            height: height,
+            margin: none,
+            padding: none,
+            gap: 0,
+            grow: 0,
+            justify: Align::Start,
+            align_cross: Align::Start,
+            background: [0u8; 4],
+        }
+    }
 }
 
 // A box, raw.
@@ -192,6 +219,16 @@ impl Ui {
         Changed {
             verdict: Verdict::Accepted,
             tree: start::fresh(n),
+        }
+    }
+
+    // The id of a new tree's root.
+    pub fn root() -> NodeId
+        ensures { λ r. ⌜ r ≡ record { index = 0; generation = 1 } ⌝ }
+    {
+        NodeId {
+            index: 0,
+            generation: 1,
         }
     }
 

@@ -6,9 +6,6 @@ ghost use Rattle.tree.specs.Calls.{newSlot, newSlots, fresh, nobody};
 ghost use Rattle.tree.specs.Slots.{NIL};
 ghost use Rattle.tree.specs.Styles.{freshStyle, freshLayout, freshState};
 ghost use Rattle.field.specs.Fields.{emptyField};
-use crate::Align;
-use crate::Direction;
-use crate::Edges;
 use crate::Interaction;
 use crate::LayoutSlot;
 use crate::Pointer;
@@ -82,24 +79,7 @@ fn new_slots(n: u32) -> [Slot; 128]
 pub fn fresh_style() -> Style
     ensures { λ r. ⌜ r ≡ freshStyle ⌝ }
 {
-    let none = Edges {
-        left: 0,
-        right: 0,
-        top: 0,
-        bottom: 0,
-    };
-    Style {
-        direction: Direction::Row,
-        width: Size::Auto,
-        height: Size::Auto,
-        margin: none,
-        padding: none,
-        gap: 0,
-        grow: 0,
-        justify: Align::Start,
-        align_cross: Align::Start,
-        background: [0u8; 4],
-    }
+    Style::sized(Size::Auto, Size::Auto)
 }
 
 // A new node's layout slot: an empty box at zero.

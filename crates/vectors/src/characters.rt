@@ -2,12 +2,12 @@
 use crate::lines;
 use crate::lines::Kind;
 use crate::show::heading;
-use crate::show::put;
 use crate::show::put_bytes;
-use crate::show::put_hex;
-use crate::show::put_labelled;
 use crate::show::put_width;
 use crate::show::put_yes;
+use report::put;
+use report::put_hex;
+use report::put_labelled;
 use text::utf8;
 use text::utf8::Encoded;
 

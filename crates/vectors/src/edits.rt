@@ -1,14 +1,14 @@
 // Edits of a field: characters of each size put into full fields, and every edit at every place.
 ghost use Prim.Native.Nat.{_<_};
 use crate::show::heading;
-use crate::show::put;
-use crate::show::put_hex;
-use crate::show::put_labelled;
 use crate::show::put_quoted;
 use crate::sums;
 use field::EditOp;
 use field::Edited;
 use field::Field;
+use report::put;
+use report::put_hex;
+use report::put_labelled;
 use text::refusal;
 use text::refusal::Verdict;
 
@@ -181,17 +181,10 @@ fn emptied() {
     repeated(EditOp::Delete, f.edit(EditOp::Home), 29);
 }
 
-fn number_of(v: Verdict) -> u8 {
-    match v {
-        Verdict::Accepted => 0,
-        Verdict::Refused(word) => refusal::number(word),
-    }
-}
-
 fn answer(e: Edited) {
     let v = e.verdict;
     let f = e.field;
-    put_labelled(b" gives ", number_of(v) as u64);
+    put_labelled(b" gives ", v.number() as u64);
     put_state(f);
     put(b"\n");
 }

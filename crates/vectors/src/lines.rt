@@ -1,10 +1,9 @@
 // Vectors given as the lines of one text, each line one vector.
-ghost use Prim.Native.Nat.{_≤_};
-ghost use lib.ListN.{length};
 use crate::characters;
 use crate::readings;
 use crate::show::heading;
 use crate::sums;
+use bytes::scan::find;
 
 // What is run on a line.
 pub enum Kind {
@@ -25,25 +24,10 @@ fn vector(kind: Kind, s: &[u8]) {
     }
 }
 
-// Where the line that starts at `at` ends.
-fn end_of(s: &[u8], at: usize) -> usize
-    requires { ⌜ at ≤ length (now s) ⌝ }
-    ensures { λ r. ⌜ (at ≤ r) × (r ≤ length (now (s .entry))) ⌝ }
-{
-    let mut i = at;
-    while i < s.len() {
-        if s[i] == 10 {
-            return i;
-        }
-        i += 1;
-    }
-    i
-}
-
 fn each(kind: Kind, s: &[u8]) {
     let mut at = 0;
     while at < s.len() {
-        let end = end_of(s, at);
+        let end = find(s, at, s.len(), 10);
         vector(kind, &s[at..end]);
         at = end + 1;
     }

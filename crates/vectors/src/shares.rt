@@ -1,15 +1,15 @@
 // The sharing of a leftover among grows.
 use crate::show::heading;
-use crate::show::put;
-use crate::show::put_signed;
 use arithmetic::growth;
+use report::put;
+use report::put_raw;
 
 // The first n shares, a space before each.
 fn put_shares(shares: [i64; 128], n: usize) {
     for i in 0..128 {
         if i < n {
             put(b" ");
-            put_signed(shares[i]);
+            put_raw(shares[i]);
         }
     }
 }

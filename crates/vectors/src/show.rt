@@ -1,11 +1,10 @@
-// The parts of a line on standard output.
-use libc::STDOUT_FILENO;
+// The parts of a line on standard output that only vectors have.
+use report::put;
+use report::put_hex;
+use report::put_labelled;
+use report::put_raw;
 use text::Measured;
 use text::refusal;
-
-pub(crate) fn put(s: &[u8]) {
-    io::write_all(STDOUT_FILENO, s);
-}
 
 pub(crate) fn heading(s: &[u8]) {
     put(b"# ");
@@ -24,29 +23,6 @@ pub(crate) fn put_yes(yes: bool) {
         put(b"yes");
     } else {
         put(b"no");
-    }
-}
-
-pub(crate) fn put_number(x: u64) {
-    io::print_decimal(STDOUT_FILENO, x);
-}
-
-pub(crate) fn put_labelled(label: &[u8], x: u64) {
-    put(label);
-    put_number(x);
-}
-
-// In base sixteen, with zeros in front up to a width.
-pub(crate) fn put_hex(x: u64, width: usize) {
-    io::print_hex(STDOUT_FILENO, x, width);
-}
-
-// A number with a sign; no vector gives one below 0.
-pub(crate) fn put_signed(x: i64) {
-    if x < 0 {
-        put(b"below 0");
-    } else {
-        put_number(x as u64);
     }
 }
 
@@ -69,7 +45,7 @@ pub(crate) fn put_width(m: Measured) {
     match m {
         Measured::Width(w) => {
             put(b"width ");
-            put_signed(w);
+            put_raw(w);
         }
         Measured::Refused(word) => {
             put_labelled(b"refused ", refusal::number(word) as u64);

@@ -2,12 +2,12 @@
 use crate::lines;
 use crate::lines::Kind;
 use crate::show::heading;
-use crate::show::put;
 use crate::show::put_bytes;
-use crate::show::put_hex;
 use crate::show::put_quoted;
 use crate::show::put_yes;
 use arithmetic::fold::StateHash;
+use report::put;
+use report::put_hex;
 
 pub(crate) fn sum_of(s: &[u8]) -> u64 {
     StateHash::new().absorb_bytes(s).finish()

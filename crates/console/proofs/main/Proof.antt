@@ -6,10 +6,10 @@ use Rattle.console.proofs.main.Statement.{statement}
 use Rattle.console.proofs.main.Tie as tie
 
 abbrev Inv-loop : tie.InvT-loop
-Inv-loop c₀ waiting₀ text₀ chunk₀ out₀ pipes₀ read₀ c waiting text chunk out pipes read = Unit {0}
+Inv-loop c₀ waiting₀ text₀ chunk₀ out₀ held₀ read₀ c waiting text chunk out held read = Unit {0}
 
 abbrev μ-loop : tie.MeasureT-loop
-μ-loop c₀ waiting₀ text₀ chunk₀ out₀ pipes₀ read₀ c waiting text chunk out pipes read = 1049700 - read
+μ-loop c₀ waiting₀ text₀ chunk₀ out₀ held₀ read₀ c waiting text chunk out held read = 1049700 - read
 
 greet-requires : tie.Need-greet-requires Inv-loop μ-loop
 greet-requires c κs = search needs
@@ -50,6 +50,9 @@ loop-again c = search needs
 read-requires : tie.Need-read-requires Inv-loop μ-loop
 read-requires c κs = search needs
 
+malformed-requires-2 : tie.Need-malformed-requires-2 Inv-loop μ-loop
+malformed-requires-2 c κs = search needs
+
 kind-of-requires : tie.Need-kind-of-requires Inv-loop μ-loop
 kind-of-requires c κs = search needs
 
@@ -58,15 +61,6 @@ enum-told c = search needs
 
 asked-requires : tie.Need-asked-requires Inv-loop μ-loop
 asked-requires c κs = search needs
-
-put-requires-2 : tie.Need-put-requires-2 Inv-loop μ-loop
-put-requires-2 c κs = search needs
-
-loop-less-2 : tie.Need-loop-less-2 Inv-loop μ-loop
-loop-less-2 c = omega (arith, c .before .before .before .before .before .before .before .before .before .before .before .before .if1 .left, c .before .before .before .before .before .before .before .before .before .before .before .before .before .before .before .before .before .before .before .before .loop-test .taken)
-
-loop-again-2 : tie.Need-loop-again-2 Inv-loop μ-loop
-loop-again-2 c = search needs
 
 enum-told-2 : tie.Need-enum-told-2 Inv-loop μ-loop
 enum-told-2 c = search needs
@@ -80,15 +74,6 @@ after-requires c κs = search needs
 plain-requires : tie.Need-plain-requires Inv-loop μ-loop
 plain-requires c κs = search needs
 
-put-requires-3 : tie.Need-put-requires-3 Inv-loop μ-loop
-put-requires-3 c κs = search needs
-
-loop-less-3 : tie.Need-loop-less-3 Inv-loop μ-loop
-loop-less-3 c = omega (arith, c .before .before .before .before .before .before .before .before .before .before .before .before .before .before .if1 .left, c .before .before .before .before .before .before .before .before .before .before .before .before .before .before .before .before .before .before .before .before .before .before .loop-test .taken)
-
-loop-again-3 : tie.Need-loop-again-3 Inv-loop μ-loop
-loop-again-3 c = search needs
-
 enum-known-e : tie.Need-enum-known-e Inv-loop μ-loop
 enum-known-e c = search needs
 
@@ -98,32 +83,14 @@ handle-requires c κs = search needs
 plain-requires-2 : tie.Need-plain-requires-2 Inv-loop μ-loop
 plain-requires-2 c κs = search needs
 
-put-requires-4 : tie.Need-put-requires-4 Inv-loop μ-loop
-put-requires-4 c κs = search needs
-
-loop-less-4 : tie.Need-loop-less-4 Inv-loop μ-loop
-loop-less-4 c = omega (arith, c .before .before .before .before .before .before .before .before .before .before .before .before .before .before .if1 .left, c .before .before .before .before .before .before .before .before .before .before .before .before .before .before .before .before .before .before .before .before .before .before .loop-test .taken)
-
-loop-again-4 : tie.Need-loop-again-4 Inv-loop μ-loop
-loop-again-4 c = search needs
-
 enum-told-3 : tie.Need-enum-told-3 Inv-loop μ-loop
 enum-told-3 c = search needs
 
 asked-requires-2 : tie.Need-asked-requires-2 Inv-loop μ-loop
 asked-requires-2 c κs = search needs
 
-put-requires-5 : tie.Need-put-requires-5 Inv-loop μ-loop
-put-requires-5 c κs = search needs
-
 changed-requires-2 : tie.Need-changed-requires-2 Inv-loop μ-loop
 changed-requires-2 c κs = search needs
-
-loop-less-5 : tie.Need-loop-less-5 Inv-loop μ-loop
-loop-less-5 c = omega (arith, c .before .before .before .before .before .before .before .before .before .before .before .before .before .if1 .left, c .before .before .before .before .before .before .before .before .before .before .before .before .before .before .before .before .before .before .before .before .before .loop-test .taken)
-
-loop-again-5 : tie.Need-loop-again-5 Inv-loop μ-loop
-loop-again-5 c = search needs
 
 enum-known-touches : tie.Need-enum-known-touches Inv-loop μ-loop
 enum-known-touches c = search needs
@@ -131,20 +98,20 @@ enum-known-touches c = search needs
 answer-requires : tie.Need-answer-requires Inv-loop μ-loop
 answer-requires c κs = search needs
 
-put-requires-6 : tie.Need-put-requires-6 Inv-loop μ-loop
-put-requires-6 c κs = search needs
-
 patch-requires : tie.Need-patch-requires Inv-loop μ-loop
 patch-requires c κs = search needs
 
 with-requires : tie.Need-with-requires Inv-loop μ-loop
 with-requires c κs = search needs
 
-loop-less-6 : tie.Need-loop-less-6 Inv-loop μ-loop
-loop-less-6 c = omega (arith, c .before .before .before .before .before .before .before .before .before .before .before .before .before .before .before .if1 .left, c .before .before .before .before .before .before .before .before .before .before .before .before .before .before .before .before .before .before .before .before .before .before .before .loop-test .taken)
+put-requires-2 : tie.Need-put-requires-2 Inv-loop μ-loop
+put-requires-2 c κs = search needs
 
-loop-again-6 : tie.Need-loop-again-6 Inv-loop μ-loop
-loop-again-6 c = search needs
+loop-less-2 : tie.Need-loop-less-2 Inv-loop μ-loop
+loop-less-2 c = omega (arith, c .before .before .before .before .before .before .before .before .before .before .before .if1 .left, c .before .before .before .before .before .before .before .before .before .before .before .before .before .before .before .before .before .before .before .loop-test .taken)
+
+loop-again-2 : tie.Need-loop-again-2 Inv-loop μ-loop
+loop-again-2 c = search needs
 
 flush-requires : tie.Need-flush-requires Inv-loop μ-loop
 flush-requires c κs = search needs
@@ -171,37 +138,26 @@ main-spec =
     loop-less
     loop-again
     read-requires
+    malformed-requires-2
     kind-of-requires
     enum-told
     asked-requires
-    put-requires-2
-    loop-less-2
-    loop-again-2
     enum-told-2
     changed-requires
     after-requires
     plain-requires
-    put-requires-3
-    loop-less-3
-    loop-again-3
     enum-known-e
     handle-requires
     plain-requires-2
-    put-requires-4
-    loop-less-4
-    loop-again-4
     enum-told-3
     asked-requires-2
-    put-requires-5
     changed-requires-2
-    loop-less-5
-    loop-again-5
     enum-known-touches
     answer-requires
-    put-requires-6
     patch-requires
     with-requires
-    loop-less-6
-    loop-again-6
+    put-requires-2
+    loop-less-2
+    loop-again-2
     flush-requires
     returns)

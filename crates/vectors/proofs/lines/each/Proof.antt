@@ -14,8 +14,8 @@ abbrev μ-loop : tie.MeasureT-loop
 loop-holds : tie.Need-loop-holds Inv-loop μ-loop
 loop-holds c = search needs
 
-end-of-requires : tie.Need-end-of-requires Inv-loop μ-loop
-end-of-requires c κs = search needs
+find-requires : tie.Need-find-requires Inv-loop μ-loop
+find-requires c κs = search needs
 
 sub-vector : tie.Need-sub-vector Inv-loop μ-loop
 sub-vector c = search needs
@@ -48,7 +48,7 @@ each-spec =
     Inv-loop
     μ-loop
     loop-holds
-    end-of-requires
+    find-requires
     sub-vector
     part-vector-start
     part-vector-end

@@ -19,14 +19,14 @@ slice-aggregate-put c = search needs
 put-requires : tie.Need-put-requires Inv-loop μ-loop
 put-requires c κs = search needs
 
-mul-put-signed : tie.Need-mul-put-signed Inv-loop μ-loop
-mul-put-signed c = search needs
+mul-put-raw : tie.Need-mul-put-raw Inv-loop μ-loop
+mul-put-raw c = search needs
 
-array-copy-out-put-signed : tie.Need-array-copy-out-put-signed Inv-loop μ-loop
-array-copy-out-put-signed c = search needs
+array-copy-out-put-raw : tie.Need-array-copy-out-put-raw Inv-loop μ-loop
+array-copy-out-put-raw c = search needs
 
-put-signed-requires : tie.Need-put-signed-requires Inv-loop μ-loop
-put-signed-requires c κs = search needs
+put-raw-requires : tie.Need-put-raw-requires Inv-loop μ-loop
+put-raw-requires c κs = search needs
 
 add-i : tie.Need-add-i Inv-loop μ-loop
 add-i c = search needs
@@ -49,9 +49,9 @@ put-shares-spec =
     loop-holds
     slice-aggregate-put
     put-requires
-    mul-put-signed
-    array-copy-out-put-signed
-    put-signed-requires
+    mul-put-raw
+    array-copy-out-put-raw
+    put-raw-requires
     add-i
     loop-less
     loop-again
