@@ -1,5 +1,6 @@
 -- Units given by picking: after i picks of the first largest key, each marked by 0, the units lie at the places of rank below i.
--- One pick more goes to the place of rank i (proofs/GrowthRanks.antt), and no other rank is i. Assumes nothing.
+-- One cond more goes to the place of rank i (proofs/GrowthRanks.antt), and no other rank is i. Assumes nothing.
+use mathlib.Core.Bool.{cond}
 use mathlib.Core.Path.{_≡_, refl, sym, _∙_, ap}
 use mathlib.Core.List.{List}
 use Prim.Native.Nat.{ℕ, _+_, _≤_, _<_}
@@ -10,7 +11,7 @@ use lib.IntN.{ℤ, pos, _+ℤ_, +ℤ-idr}
 use lib.ListN.{getD, length, set, length-set}
 use lib.Seq.{getD-set-same, getD-set-other}
 use Rattle.arithmetic.specs.Growth.{rank}
-use Rattle.arithmetic.specs.Steps.{FirstLargest, unitAt, withUnit}
+use Rattle.arithmetic.specs.Support.Steps.{FirstLargest, unitAt, withUnit}
 use Rattle.arithmetic.proofs.GrowthRanks.{bit, bit-yes, bit-no, same-test-same-bit, ranks-differ, first-largest-has-rank}
 
 -- The rank of a place by its key.

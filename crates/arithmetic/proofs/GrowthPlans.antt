@@ -12,7 +12,7 @@ use lib.IntN.{ℤ, pos, negsuc, natAbs, _+ℤ_}
 use lib.ListN.{getD}
 use lib.Signed.{leZ}
 use Rattle.arithmetic.specs.Growth.{table, comesBefore, rank, growSum, wholeShare, remainder, missing, shareWithUnit, share, planGrowth}
-use Rattle.arithmetic.specs.Steps.{PartsOf, RoomForUnits, withUnit}
+use Rattle.arithmetic.specs.Support.Steps.{PartsOf, RoomForUnits, withUnit}
 use Rattle.arithmetic.proofs.GrowthPicks.{unit-below-count, no-unit-past-count}
 use Rattle.arithmetic.proofs.GrowthRanks.{bit}
 use Rattle.arithmetic.proofs.GrowthShares.{at-most-one-unit-each}

@@ -6,3 +6,7 @@ pub mod GrowthShares
 pub mod GrowthTheorems
 pub mod Signed
 pub mod Sums
+pub mod BoolLaws
+pub mod TestLaws
+pub mod LoopLaws
+pub mod Signs

@@ -1,4 +1,5 @@
 pub mod Fold
 pub mod Growth
 pub mod Scalar
-pub mod Steps
+pub mod Tests
+pub mod Support

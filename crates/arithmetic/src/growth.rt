@@ -2,7 +2,7 @@
 ghost use mathlib.Core.Path.{_≡_};
 ghost use Prim.Native.Nat.{_+_, _*_, _/_, _%_, _≤_, _<_, _^_, min};
 ghost use Rattle.arithmetic.specs.Growth.{growSum, table, planGrowth};
-ghost use Rattle.arithmetic.specs.Steps.{Divisible, PartsOf, FirstLargest, RoomForUnits, withUnit};
+ghost use Rattle.arithmetic.specs.Support.Steps.{Divisible, PartsOf, FirstLargest, RoomForUnits, withUnit};
 
 // The long division takes 24 bits at a time: the sum of 128 grows is below 2^39, and a remainder of it with 24 bits more fits 64.
 const DIGIT: u64 = 16777216;

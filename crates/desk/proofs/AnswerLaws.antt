@@ -1,19 +1,19 @@
 -- A call is answered as the history says: wherever a definition refuses, the history's table does, and so the proof of a call follows its definition.
 -- Assumes nothing.
 use mathlib.Core.Path.{_≡_, refl, sym, ap, subst, _∙_}
-use mathlib.Core.Bool.{Bool, true, false, not}
+use mathlib.Core.Bool.{Bool, true, false, not, cond}
 use Prim.Native.Nat.{ℕ, suc}
 use Rattle.text.specs.Refusal.{numberOf}
 use Rattle.text.specs.declared.refusal.Refusal.{Refusal}
 use Rattle.text.specs.declared.refusal.Refusal.the-variants.{Broken, Large, Missing, Full, Root, Foreign, Long, Fieldless, Empty, Unread, IllFormed}
 use Rattle.field.specs.declared.NodeId.{NodeId}
-use Rattle.tree.specs.Tests.{pick, same}
+use Rattle.arithmetic.specs.Tests.{same}
 use Rattle.tree.specs.Slots.{isLive}
-use Rattle.tree.specs.Rules.{broken}
+use Rattle.tree.specs.Broken.{broken}
 use Rattle.tree.specs.Trees.{limitOf}
 use Rattle.tree.specs.Calls.{Outcome, gives, refuses, guarded, onLive}
 use Rattle.tree.specs.declared.Ui.{Ui}
-use Rattle.tree.proofs.TestLaws.{bool-cases, same-yes}
+use Rattle.arithmetic.proofs.TestLaws.{bool-cases, same-yes}
 use Rattle.tree.proofs.Ids.{live-just-where-a-node-has-it}
 use Rattle.tree.proofs.NotBroken.{not-broken}
 use Rattle.desk.specs.History.{History, Call, Change, has, unless, refusalOf, refusalOfChange, afterChange, accept, recorded}
@@ -29,7 +29,7 @@ pub record Kept (k : ℕ) (u : Ui) (h : History) (c : Call) : Type 0 where
 -- an outcome with number n, after which the history is what f makes of the value, or h where it is refused
 pub record AsSaid (k : ℕ) (h : History) {A : Type 0} (o : Outcome A) (n : ℕ) (f : A → History) : Type 0 where
   pub number-is : o .answer .number ≡ n
-  pub goes-on : Inv (suc k) (o .next) (pick (same n 0) (f (o .answer .value)) h)
+  pub goes-on : Inv (suc k) (o .next) (cond (same n 0) (f (o .answer .value)) h)
 
 no-word-is-0 : (word : Refusal) → same (numberOf word) 0 ≡ false
 unfolding same
@@ -47,7 +47,7 @@ no-word-is-0 IllFormed = refl
 
 module _ {k : ℕ} {u : Ui} {h : History} (v : Inv k u h) where
   pub sound : broken u ≡ false
-  sound = not-broken (v .nodes .links) (v .styling .dress) (v .styling .pool) (v .nodes .texts) (v .queue)
+  sound = not-broken (v .nodes .links) (v .styling .styled) (v .styling .pool) (v .nodes .texts) (v .queue)
 
   pub guarded-is : {A : Type 0} (none : A) (o : Outcome A) → guarded u none o ≡ o
   unfolding guarded
@@ -64,11 +64,11 @@ module _ {k : ℕ} {u : Ui} {h : History} (v : Inv k u h) where
 
   -- refused by a word but where b holds, or where it holds; the history's test is c
   pub only-if : {A : Type 0} (b c : Bool) → c ≡ b → (word : Refusal) (none : A) {o : Outcome A} {n : ℕ} {f : A → History}
-      → (b ≡ true → AsSaid k h o n f) → AsSaid k h (pick b o (refuses u word none)) (unless c (numberOf word) n) f
+      → (b ≡ true → AsSaid k h o n f) → AsSaid k h (cond b o (refuses u word none)) (unless c (numberOf word) n) f
   only-if b c e word none {f = f} x = bool-cases b (λ q. rw (e, q) (x q)) (λ q. rw (e, q) (refused-as-said word none f))
 
   pub only-unless : {A : Type 0} (b c : Bool) → c ≡ not b → (word : Refusal) (none : A) {o : Outcome A} {n : ℕ} {f : A → History}
-      → (b ≡ false → AsSaid k h o n f) → AsSaid k h (pick b (refuses u word none) o) (unless c (numberOf word) n) f
+      → (b ≡ false → AsSaid k h o n f) → AsSaid k h (cond b (refuses u word none) o) (unless c (numberOf word) n) f
   only-unless b c e word none {f = f} x = bool-cases b (λ q. rw (e, q) (refused-as-said word none f)) (λ q. rw (e, q) (x q))
 
   pub live-as-said : {A : Type 0} (d : NodeId) (none : A) {o : Outcome A} {n : ℕ} {f : A → History}
@@ -82,5 +82,5 @@ module _ {k : ℕ} {u : Ui} {h : History} (v : Inv k u h) where
   unfolding step refusalOf accept recorded
   change-kept c x e = record {
     refused-so = ap (λ (s : Step). s .number) e ∙ x .number-is;
-    goes-on = subst (λ (s : Step). Inv (suc k) (s .next) (pick (same (refusalOfChange h c) 0) (afterChange h c) h)) (sym e) (x .goes-on);
+    goes-on = subst (λ (s : Step). Inv (suc k) (s .next) (cond (same (refusalOfChange h c) 0) (afterChange h c) h)) (sym e) (x .goes-on);
   }

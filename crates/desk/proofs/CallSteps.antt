@@ -14,28 +14,27 @@ use Rattle.field.specs.declared.NodeId.{NodeId}
 use Rattle.field.specs.declared.MaybeId.{MaybeId}
 use Rattle.field.specs.declared.MaybeId.the-variants.{Absent, Present}
 use Rattle.field.specs.declared.Field.{Field}
-use Rattle.tree.specs.Tests.{same, δ, all, Maybe, nothing, just}
+use Rattle.arithmetic.specs.Tests.{same, δ, all, Maybe, nothing, just}
 use Rattle.tree.specs.Slots.{NIL, idAt, at}
 use Rattle.tree.specs.Styles.{noPatch}
-use Rattle.tree.specs.States.{inPool, sameId, styledAt, tabledAt}
+use Rattle.tree.specs.States.{inPool, sameId}
+use Rattle.tree.specs.Wearing.{styledAt, tabledAt}
 use Rattle.tree.specs.Layout.{passed, viewRect}
 use Rattle.tree.specs.Forest.{Forest, nil, node, hasBoth, size, anyF, cutOf}
 use Rattle.tree.specs.Nodes.{Info, changeOf, wears, swaps, restyled, withTable, bare, placeF, hasField, bit}
 use Rattle.tree.specs.Fields.{fieldOf, firstField, vacant, reclaimed, claimed}
-use Rattle.tree.specs.Trees.{limitOf, waitingOf, withWaiting, withNodes, withLooks, withPool, withFields, withPass}
+use Rattle.tree.specs.Trees.{limitOf, waitingOf, withWaiting, withNodes, withStyles, withPool, withFields, withPass}
 use Rattle.tree.specs.Calls as tree
 use Rattle.tree.specs.Calls.{onLive, nobody, sameView, insertAt, removeAt, pooled, takeField}
 use Rattle.tree.specs.declared.Ui.{Ui}
-use Rattle.tree.specs.declared.Style.{Style}
-use Rattle.tree.specs.declared.StatePatch.{StatePatch}
-use Rattle.tree.specs.declared.Viewport.{Viewport}
-use Rattle.tree.proofs.TestLaws.{bool-cases, same-yes, same-no, eq-cases, δ-other}
+use Rattle.tree.specs.Types.{Style, StatePatch, Viewport}
+use Rattle.arithmetic.proofs.TestLaws.{bool-cases, same-yes, same-no, eq-cases, δ-other}
 use Rattle.tree.proofs.ForestLaws.{cnt, wt}
 use Rattle.tree.proofs.Ids.{root-is-live, live-id, free-cases, Known, find-known, find-nothing}
-use Rattle.tree.proofs.Parts.{Links, Dress, textIn}
-use Rattle.tree.proofs.LookParts.{style-keeps-dress, table-keeps-dress, table-dirties, pool-keeps-dress, pool-dirties, pass-keeps-dress}
-use Rattle.tree.proofs.InsertParts.{insert-keeps-links, insert-keeps-dress, insert-keeps-texts, insert-keeps-naming, withChild, an-insertion-raises-one-epoch, no-node-has-the-slot-taken}
-use Rattle.tree.proofs.RemoveParts.{remove-keeps-links, remove-keeps-naming, remove-keeps-dress, remove-keeps-texts, a-removal-keeps-every-epoch}
+use Rattle.tree.proofs.Relation.{Links, Styled, textIn}
+use Rattle.tree.proofs.StylingParts.{style-keeps-styling, table-keeps-styling, table-dirties, pool-keeps-styling, pool-dirties, pass-keeps-styling}
+use Rattle.tree.proofs.InsertParts.{insert-keeps-links, insert-keeps-styling, insert-keeps-texts, insert-keeps-naming, withChild, an-insertion-raises-one-epoch, no-node-has-the-slot-taken}
+use Rattle.tree.proofs.RemoveParts.{remove-keeps-links, remove-keeps-naming, remove-keeps-styling, remove-keeps-texts, a-removal-keeps-every-epoch}
 use Rattle.tree.proofs.FieldLaws.{a-field-is-vacant-or-every-field-is-a-live-nodes, a-node-with-a-text-has-a-field}
 use Rattle.tree.proofs.FieldParts.{a-field-stays, a-field-is-made}
 use Rattle.desk.specs.Events as desk
@@ -115,7 +114,7 @@ module _ {k : ℕ} {u : Ui} {h : History} (v : Inv k u h) where
         root-is = root-stays (insertAt u (d .index)) (withChild u d m (h .tree)) L (δ (u .free) 0) (an-insertion-raises-one-epoch (v .nodes .links) d hd f m 0) apart;
         limit-is = v .nodes .limit-is;
       })
-      (insert-keeps-dress (v .nodes .links) d hd f m (v .styling .dress))
+      (insert-keeps-styling (v .nodes .links) d hd f m (v .styling .styled))
       (record {
         pointer-is = v .input .pointer-is;
         pressed = still-named (new ∷ []) (h .input .pressed) (v .input .pressed);
@@ -148,7 +147,7 @@ module _ {k : ℕ} {u : Ui} {h : History} (v : Inv k u h) where
         root-is = root-stays (removeAt u (d .index)) (cutOf d (h .tree)) L 0 (let q = a-removal-keeps-every-epoch (v .nodes .links) small d hd nz 0 in omega arith) refl;
         limit-is = v .nodes .limit-is;
       })
-      (remove-keeps-dress (v .nodes .links) small d hd nz (v .styling .dress)) (v .input)
+      (remove-keeps-styling (v .nodes .links) small d hd nz (v .styling .styled)) (v .input)
 
   -- a live id is the root's just where it has the root's index
   root-by-index : (d : NodeId) → has h d ≡ true → sameId d rootId ≡ same (d .index) 0
@@ -169,10 +168,10 @@ module _ {k : ℕ} {u : Ui} {h : History} (v : Inv k u h) where
   -- ---- styles, tables, the pool
 
   style-agrees : (d : NodeId) (hd : has h d ≡ true) (s : Style) → Inv k (styledAt u (d .index) s) (withTree h (changeOf d (restyled s) (h .tree)) true)
-  unfolding styledAt withLooks restyled
+  unfolding styledAt withStyles restyled
   style-agrees d hd s =
       with-styling v refl (same-nodes-some (hasBoth d) (restyled s) (λ x. (refl, refl)) (h .tree))
-      (styling-under refl (v .styling) (style-keeps-dress k u (h .tree) (v .nodes .links) (v .styling .dress) d hd s) refl)
+      (styling-under refl (v .styling) (style-keeps-styling k u (h .tree) (v .nodes .links) (v .styling .styled) d hd s) refl)
 
   style-as-said : (d : NodeId) (s : Style) → AsSaid k h (tree.setStyle u d s) (refusalOfChange h (setStyle d s)) (λ _. afterChange h (setStyle d s))
   unfolding tree.setStyle
@@ -183,13 +182,13 @@ module _ {k : ℕ} {u : Ui} {h : History} (v : Inv k u h) where
 
   table-agrees : (d : NodeId) (hd : has h d ≡ true) (table : List ℕ) → all (inPool (u .«patch_count»)) table ≡ true
       → Inv k (tabledAt u (d .index) table) (afterChange h (setStateTable d table))
-  unfolding tabledAt withLooks wears
+  unfolding tabledAt withStyles wears
   table-agrees d hd table ok =
       with-styling v refl (same-nodes-some (hasBoth d) (λ x. wears (h .styling .pool) (x .bits) (withTable table x)) (λ x. (refl, refl)) (h .tree))
       (styling-under refl (v .styling)
-      (subst (λ (q : List StatePatch). Dress (tabledAt u (d .index) table) (changeOf d (λ x. wears q (x .bits) (withTable table x)) (h .tree))) (v .styling .pool-is)
-      (table-keeps-dress k u (h .tree) (v .nodes .links) (v .styling .dress) d hd table ok))
-      (table-dirties k u (h .tree) (v .nodes .links) (v .styling .dress) d hd table
+      (subst (λ (q : List StatePatch). Styled (tabledAt u (d .index) table) (changeOf d (λ x. wears q (x .bits) (withTable table x)) (h .tree))) (v .styling .pool-is)
+      (table-keeps-styling k u (h .tree) (v .nodes .links) (v .styling .styled) d hd table ok))
+      (table-dirties k u (h .tree) (v .nodes .links) (v .styling .styled) d hd table
       ∙ ap₂ (λ (b : Bool) (q : List StatePatch). b || anyF (λ i g x. hasBoth d i g && swaps q (x .bits) (withTable table x)) (h .tree)) (v .styling .dirty-is) (v .styling .pool-is)))
 
   table-as-said : (d : NodeId) (table : List ℕ) → AsSaid k h (tree.setStateTable u d table) (refusalOfChange h (setStateTable d table)) (λ _. afterChange h (setStateTable d table))
@@ -200,16 +199,16 @@ module _ {k : ℕ} {u : Ui} {h : History} (v : Inv k u h) where
       accepted-as-said v (tabledAt u (d .index) table) 0 _ (inv-after (table-agrees d b table c))))
 
   pool-agrees : (patches : List StatePatch) (count : ℕ) → length patches ≡ 64 → count ≤ 64 → Inv k (pooled u patches count) (afterChange h (setPatchPool patches count))
-  unfolding pooled withPool withLooks bare
+  unfolding pooled withPool withStyles bare
   pool-agrees patches count long few =
       with-styling v refl (same-nodes-each (λ i g x. bare x) (λ i g x. (refl, refl)) (h .tree))
       (record {
-        dress = pool-keeps-dress k u (h .tree) (v .nodes .links) (v .styling .dress) patches count;
+        styled = pool-keeps-styling k u (h .tree) (v .nodes .links) (v .styling .styled) patches count;
         pool = record { long = long; few = few };
         pool-is = refl;
         view-is = v .styling .view-is;
         dirty-is =
-            pool-dirties k u (h .tree) (v .nodes .links) (v .styling .dress) patches count
+            pool-dirties k u (h .tree) (v .nodes .links) (v .styling .styled) patches count
             ∙ ap (λ (b : Bool). b || anyF (λ i g x. not (same (x .applied) noPatch)) (h .tree)) (v .styling .dirty-is);
       })
 
@@ -268,7 +267,7 @@ module _ {k : ℕ} {u : Ui} {h : History} (v : Inv k u h) where
   pass-agrees w =
       with-styling v refl (same-nodes-placed (h .tree) (viewRect w ∷ []))
       (record {
-        dress = pass-keeps-dress k u (h .tree) (v .nodes .links) (v .styling .dress) w;
+        styled = pass-keeps-styling k u (h .tree) (v .nodes .links) (v .styling .styled) w;
         pool = record { long = v .styling .pool .long; few = v .styling .pool .few };
         pool-is = v .styling .pool-is;
         view-is = refl;

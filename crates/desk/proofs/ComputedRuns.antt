@@ -8,16 +8,18 @@ use Rattle.arithmetic.specs.Scalar.{stop, addSat, subSat, unsignedOf}
 use Rattle.arithmetic.specs.Fold.{emptyHash, fnvByte, foldBytes, lowBytes, absorbed}
 use Rattle.text.specs.Reader.{runFrom, isUtf8}
 use Rattle.field.specs.Fields.{emptyField, inRange, fieldOk}
-use Rattle.tree.specs.Tests.{same, δ}
-use Rattle.tree.specs.Trees.{withLooks, withStated, withPass, withInteraction, withWaiting}
-use Rattle.tree.specs.Slots.{at, isLive, chain, kidsAt, order}
+use Rattle.arithmetic.specs.Tests.{same, δ}
+use Rattle.tree.specs.Trees.{withStyles, withStated, withPass, withInteraction, withWaiting}
+use Rattle.tree.specs.Slots.{at, isLive, chain, kidsAt, order, newSlot, newSlots}
 use Rattle.tree.specs.Styles.{layoutAt, stateAt}
-use Rattle.tree.specs.States.{entryOf, inPool, wear, bitsOf, bitsAt, wearAll, slotIn, bearing, refreshed}
+use Rattle.tree.specs.States.{entryOf, inPool, wear, bitsOf, wearAll, liveSlot, bearing}
+use Rattle.tree.specs.Wearing.{bitsAt, refreshed}
 use Rattle.tree.specs.Layout.{boxes, place, measureAt, measureAll, setRects, arrangeAt, arrangeAll, passed, holds}
-use Rattle.tree.specs.Hit.{lastOf, descend, holdsAt, hitTest}
-use Rattle.tree.specs.Rules.{kidsWell, nodeWell, freeWell, eachOnce, linksWell, linked, stateWell, distinct, ownersWell, broken}
+use Rattle.tree.specs.Hit.{lastOf, descend, holdsAt, hitAt}
+use Rattle.tree.specs.Rules.{kidsWell, nodeWell, freeWell, eachOnce, linked, stateWell, distinct, ownersWell}
+use Rattle.tree.specs.Broken.{linksWell, broken}
 use Rattle.tree.specs.Calls as tree-Calls
-use Rattle.tree.specs.Calls.{guarded, newSlot, newSlots, fresh, newTree}
+use Rattle.tree.specs.Calls.{guarded, fresh, newTree}
 use Rattle.desk.specs.Events as desk-Events
 use Rattle.desk.specs.Events.{activated, activate, hitOf, handled}
 use Rattle.desk.specs.Demand3.{step, run}
@@ -28,7 +30,7 @@ use Rattle.desk.specs.declared.UiEvent.the-variants.{PointerMoved, Point
 
 -- The definitions that a run computes with: to unfold this one is to unfold them all.
 computing : Unit {0}
-unfolding stop addSat subSat unsignedOf fnvByte foldBytes lowBytes absorbed runFrom isUtf8 emptyField inRange fieldOk same δ withLooks withStated withPass withInteraction withWaiting at isLive chain kidsAt order layoutAt stateAt entryOf inPool wear bitsOf bitsAt wearAll slotIn bearing refreshed boxes place measureAt measureAll setRects arrangeAt arrangeAll passed holds lastOf descend holdsAt hitTest kidsWell nodeWell freeWell eachOnce linksWell linked stateWell distinct ownersWell broken guarded newSlot newSlots fresh newTree tree-Calls.solve activated activate hitOf handled desk-Events.handle desk-Events.absorb step limitFrom start refusalOf grown accept recorded
+unfolding stop addSat subSat unsignedOf fnvByte foldBytes lowBytes absorbed runFrom isUtf8 emptyField inRange fieldOk same δ withStyles withStated withPass withInteraction withWaiting at isLive chain kidsAt order layoutAt stateAt entryOf inPool wear bitsOf bitsAt wearAll liveSlot bearing refreshed boxes place measureAt measureAll setRects arrangeAt arrangeAll passed holds lastOf descend holdsAt hitAt kidsWell nodeWell freeWell eachOnce linksWell linked stateWell distinct ownersWell broken guarded newSlot newSlots fresh newTree tree-Calls.solve activated activate hitOf handled desk-Events.handle desk-Events.absorb step limitFrom start refusalOf grown accept recorded
 computing = tt
 
 -- The root of a tree of one node is pressed and released, twice; or the pointer leaves it before the release.

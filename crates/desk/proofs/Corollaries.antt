@@ -5,13 +5,12 @@
 --   an-untouched-field-is-empty     a field into which no such key fell reads as no text, and its metres are refused by 9, never read as 0.
 -- Assumes nothing.
 use mathlib.Core.Path.{_≡_, refl, sym, ap, subst, _∙_}
-use mathlib.Core.Bool.{Bool, true, false, _&&_, _||_, not}
+use mathlib.Core.Bool.{Bool, true, false, _&&_, _||_, not, cond}
 use mathlib.Core.List.{List, [], _∷_, _++_}
 use Prim.Native.Nat.{ℕ, suc, _+_, _<_, _^_}
 use native.Mathlib.Omega.{arith}
 use lib.Dec.{ltb, eqb}
 use lib.ListN.{length, getD}
-use Rattle.text.specs.Choice as choice
 use Rattle.text.specs.Steps.{front}
 use Rattle.text.specs.Refusal.{Answer, accepted, refused}
 use Rattle.text.specs.declared.refusal.Refusal.the-variants.{Empty}
@@ -19,7 +18,7 @@ use Rattle.text.specs.Utf8.{encodedAll}
 use Rattle.field.specs.Text.{Text, text, bytesOf}
 use Rattle.field.specs.Metres.{isPoint, isDigit, behind, metresOf}
 use Rattle.field.specs.declared.NodeId.{NodeId}
-use Rattle.tree.specs.Tests.{pick, same, all, Maybe, nothing, just}
+use Rattle.arithmetic.specs.Tests.{same, all, Maybe, nothing, just, within}
 use Rattle.tree.specs.States.{inPool, sameId}
 use Rattle.tree.specs.Forest.{Forest, nil, node, hasBoth, hasId, kidsOf, setKidsOf, cutOf, find, size}
 use Rattle.tree.specs.Nodes.{Info, withField, changeNamed, changeOf, wears, restyled, withTable, bare, hasField}
@@ -27,12 +26,12 @@ use Rattle.tree.specs.Layout.{viewRect}
 use Rattle.tree.specs.Calls as tree
 use Rattle.tree.specs.Calls.{noText, nobody, sameView}
 use Rattle.tree.specs.declared.Ui.{Ui}
-use Rattle.tree.proofs.TestLaws.{bool-cases, eq-cases, same-refl}
+use Rattle.arithmetic.proofs.TestLaws.{bool-cases, eq-cases, same-refl}
 use Rattle.tree.proofs.Payloads.{AllF, all-map, all-app, all-both, all-mapF}
 use Rattle.tree.proofs.Ids.{Known, find-known, find-nothing}
 use Rattle.tree.proofs.FieldLaws.{one-id-is-the-other, to-have-an-id-is-to-be-named-by-it}
 use Rattle.tree.specs.Fields.{fieldOf}
-use Rattle.tree.proofs.Parts.{textIn}
+use Rattle.tree.proofs.Relation.{textIn}
 use Rattle.desk.specs.Events as desk
 use Rattle.desk.specs.History.{History, Call, Change, Question, has, unless, start, refusalOf, refusalOfField, refusalOfChange, refusalOfQuestion, afterChange, accept, recorded, grown, keepText, keyText, mapMaybe, refresh, afterEvent, padded, ofText, ofNode, textSaid, caretSaid, metresSaid, rectSaid, fieldCount, rootId}
 use Rattle.desk.specs.History.Call.{insert, change, ask}
@@ -73,7 +72,7 @@ node-not : {A : Type 0} (none : A) (read : Info → Answer A) → ((x : Info) �
 node-not none read h nothing = λ e. omega arith
 node-not none read h (just x) = h x
 
-picked-not : (b : Bool) (a c : Answer ℕ) → (a .number ≡ 1 → ⊥) → (c .number ≡ 1 → ⊥) → choice.pick b a c .number ≡ 1 → ⊥
+picked-not : (b : Bool) (a c : Answer ℕ) → (a .number ≡ 1 → ⊥) → (c .number ≡ 1 → ⊥) → cond b a c .number ≡ 1 → ⊥
 picked-not true a c p q = p
 picked-not false a c p q = q
 
@@ -87,7 +86,7 @@ behind-not v (p ∷ d ∷ e ∷ x ∷ s) = λ e. omega arith
 
 metres-not : (s : List ℕ) → metresOf s .number ≡ 1 → ⊥
 unfolding metresOf
-metres-not s = picked-not (eqb (length s) 0) _ _ (λ e. omega arith) (picked-not (choice.within 1 3 (front isDigit s)) _ _ (behind-not _ _) (λ e. omega arith))
+metres-not s = picked-not (eqb (length s) 0) _ _ (λ e. omega arith) (picked-not (within 1 3 (front isDigit s)) _ _ (behind-not _ _) (λ e. omega arith))
 
 field-not : (h : History) (m : Maybe Info) → refusalOfField h m ≡ 1 → ⊥
 field-not h nothing = λ e. omega arith
@@ -146,7 +145,7 @@ module _ (P : ℕ → ℕ → Info → Type 0) where
   all-kids-of : (d : NodeId) (f : Forest Info) → AllF P f → AllF P (kidsOf d f)
   all-kids-of d nil a = tt
   all-kids-of d (node i g x cs sib) a =
-      all-app P (pick (hasBoth d i g) cs (kidsOf d cs)) (kidsOf d sib)
+      all-app P (cond (hasBoth d i g) cs (kidsOf d cs)) (kidsOf d sib)
       (bool-cases (hasBoth d i g) (λ b. rw b (a .1)) (λ b. rw b (all-kids-of d cs (a .1)))) (all-kids-of d sib (a .2))
 
   all-set-kids-of : (d : NodeId) (k f : Forest Info) → AllF P k → AllF P f → AllF P (setKidsOf d k f)
@@ -168,8 +167,8 @@ key-logged : (log : Log) (focus : Maybe ℕ) (key : Key) (t : Forest Info) → A
     → AllF (ByKeys (logKey focus key log)) (changeNamed focus (λ x. withField x (mapMaybe (keyText key) (x .text))) t)
 key-logged log nothing key t a = keys-kept log (same-nodes-each _ (λ i g x. (refl, refl)) t) a
 key-logged log (just m) key t a =
-    all-mapF (ByKeys (logKey (just m) key log)) (λ i g x. pick (same m (x .name)) (withField x (mapMaybe (keyText key) (x .text))) x) t
-    (all-map (ByKeys log) (λ i g x. ByKeys (logKey (just m) key log) i g (pick (same m (x .name)) (withField x (mapMaybe (keyText key) (x .text))) x)) t
+    all-mapF (ByKeys (logKey (just m) key log)) (λ i g x. cond (same m (x .name)) (withField x (mapMaybe (keyText key) (x .text))) x) t
+    (all-map (ByKeys log) (λ i g x. ByKeys (logKey (just m) key log) i g (cond (same m (x .name)) (withField x (mapMaybe (keyText key) (x .text))) x)) t
     (λ i g x _ p. bool-cases (same m (x .name))
     (λ b. rw b (λ y q. rw b (typed x (x .text) refl p y q)))
     (λ b. rw b (λ y q. rw b (p y q)))) a)
@@ -201,8 +200,8 @@ module _ (k : ℕ) (u : Ui) (h : History) (v : Inv k u h) (log : Log) (a : AllF 
   made-logged : (x₀ : Info) → find d (h .tree) ≡ just x₀ → Own (d .index) (d .generation) x₀
       → AllF (ByKeys (beginAt (x₀ .text) (x₀ .name) log)) (changeOf d (λ x. withField x (keepText (x .text))) (h .tree))
   made-logged x₀ f own₀ =
-      all-mapF (ByKeys (beginAt (x₀ .text) (x₀ .name) log)) (λ i g x. pick (hasBoth d i g) (withField x (keepText (x .text))) x) (h .tree)
-      (all-map (λ i g x. ByKeys log i g x × Own i g x) (λ i g x. ByKeys (beginAt (x₀ .text) (x₀ .name) log) i g (pick (hasBoth d i g) (withField x (keepText (x .text))) x)) (h .tree)
+      all-mapF (ByKeys (beginAt (x₀ .text) (x₀ .name) log)) (λ i g x. cond (hasBoth d i g) (withField x (keepText (x .text))) x) (h .tree)
+      (all-map (λ i g x. ByKeys log i g x × Own i g x) (λ i g x. ByKeys (beginAt (x₀ .text) (x₀ .name) log) i g (cond (hasBoth d i g) (withField x (keepText (x .text))) x)) (h .tree)
       (λ i g x _ q. bool-cases (hasBoth d i g)
       (λ b. rw b (the-node i g x (q .0) (q .1) (one-id-is-the-other d (record { index = i; generation = g }) (sym (to-have-an-id-is-to-be-named-by-it d i g) ∙ b)) (x₀ .text) refl))
       (λ b. rw b (another i g x (q .0) (q .1) b (x₀ .text))))
@@ -270,7 +269,7 @@ module _ (k : ℕ) (u : Ui) (h : History) (v : Inv k u h) (log : Log) (a : AllF 
   call-logged (change c) j = change-logged c j
   call-logged (ask q) j = a
 
-  recorded-logged : (c : Call) → AllF (ByKeys (pick (same (refusalOf h c) 0) (logged h c log) log)) (recorded h c new .tree)
+  recorded-logged : (c : Call) → AllF (ByKeys (cond (same (refusalOf h c) 0) (logged h c log) log)) (recorded h c new .tree)
   unfolding recorded
   recorded-logged c = eq-cases (refusalOf h c) 0 (λ e s _. rw s (call-logged c e)) (λ e s _. rw s a)
 
@@ -281,7 +280,7 @@ runs-logged k u h (c ∷ cs) v small m log a =
     let s = step u c in
     let q : Kept k u h c = every-call v (omega arith) c (m .0) in
     runs-logged (suc k) (s .next) (recorded h c (s .told)) cs (q .goes-on) (omega arith) (m .1)
-    (pick (same (refusalOf h c) 0) (logged h c log) log) (recorded-logged k u h v log a (s .told) c)
+    (cond (same (refusalOf h c) 0) (logged h c log) log) (recorded-logged k u h v log a (s .told) c)
 
 -- ---- what a field says
 

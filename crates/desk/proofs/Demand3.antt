@@ -1,6 +1,6 @@
 -- Demand 3 holds: the invariant holds at the start and after every call, and gives what the calls answer. Assumes nothing.
 use mathlib.Core.Path.{_≡_, refl, sym, ap, ap₂, subst, _∙_}
-use mathlib.Core.Bool.{Bool, true, false, _&&_, not}
+use mathlib.Core.Bool.{Bool, true, false, _&&_, not, cond}
 use mathlib.Core.List.{List, [], _∷_, _++_, append-assoc, append-nil}
 use Prim.Native.Nat.{ℕ, zero, suc, _+_, _≤_, _<_, _^_}
 use native.Mathlib.Omega.{arith}
@@ -8,13 +8,13 @@ use borrow.Author.Tests.{ltb-false}
 use lib.Dec.{ltb}
 use lib.ListN.{length, getD}
 use Rattle.field.specs.declared.NodeId.{NodeId}
-use Rattle.tree.specs.Tests.{pick, same}
+use Rattle.arithmetic.specs.Tests.{same}
 use Rattle.tree.specs.Calls as tree
 use Rattle.tree.specs.Calls.{fresh, nobody, sameView}
 use Rattle.tree.specs.declared.Ui.{Ui}
-use Rattle.tree.proofs.TestLaws.{bool-cases, eq-cases}
+use Rattle.arithmetic.proofs.TestLaws.{bool-cases, eq-cases}
 use Rattle.tree.proofs.Starts.{start-root-generation}
-use Rattle.tree.proofs.StartParts.{start-has-links, start-has-names, start-has-dress, start-has-a-pool, start-has-texts, start-has-a-queue}
+use Rattle.tree.proofs.StartParts.{start-has-links, start-has-names, start-has-styling, start-has-a-pool, start-has-texts, start-has-a-queue}
 use Rattle.desk.specs.History.{History, Call, Change, limitFrom, start, refusalOf, afterChange, accept, recorded, grown, refresh, afterEvent}
 use Rattle.desk.specs.History.Call.{insert, change, ask}
 use Rattle.desk.specs.History.Change.{remove, setStyle, setStateTable, setPatchPool, makeField, solve, handle, nextOutput}
@@ -58,7 +58,7 @@ starts-fresh limit =
         root-is = start-root-generation n;
         limit-is = refl;
       };
-      styling = record { dress = start-has-dress n (r .0) (r .1); pool = start-has-a-pool n (r .0) (r .1); pool-is = refl; view-is = refl; dirty-is = refl };
+      styling = record { styled = start-has-styling n (r .0) (r .1); pool = start-has-a-pool n (r .0) (r .1); pool-is = refl; view-is = refl; dirty-is = refl };
       input = record { pointer-is = refl; pressed = record { is-id = refl; is-in = tt }; focus = record { is-id = refl; is-in = tt } };
       queue = start-has-a-queue n (r .0) (r .1);
     }
@@ -94,7 +94,7 @@ recorded-names : (u : Ui) (h : History) (c : Call) → step u c .number ≡ refu
 unfolding recorded accept grown
 recorded-names u h (insert d) e = rw (← e) (go (same (step u (insert d) .number) 0))
   where
-    go : (b : Bool) → pick b (grown h d (step u (insert d) .told)) h .named ≡ h .named ++ pick b (step u (insert d) .told ∷ []) []
+    go : (b : Bool) → cond b (grown h d (step u (insert d) .told)) h .named ≡ h .named ++ cond b (step u (insert d) .told ∷ []) []
     go true = refl
     go false = sym (append-nil (h .named))
 recorded-names u h (change c) e =

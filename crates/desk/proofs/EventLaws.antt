@@ -2,20 +2,21 @@
 -- Assumes nothing.
 use Prim.Native.Nat.{ℕ}
 use mathlib.Core.Path.{_≡_, refl, sym, ap, _∙_}
-use mathlib.Core.Bool.{Bool, true, false}
+use mathlib.Core.Bool.{Bool, true, false, cond}
 use lib.Dec.{ltb}
 use Rattle.field.specs.declared.NodeId.{NodeId}
 use Rattle.field.specs.declared.Field.{Field}
 use Rattle.field.specs.declared.MaybeId.{MaybeId}
 use Rattle.field.specs.declared.MaybeId.the-variants.{Absent, Present}
-use Rattle.tree.specs.Tests.{pick, Maybe, nothing, just}
+use Rattle.arithmetic.specs.Tests.{Maybe, nothing, just}
 use Rattle.tree.specs.Slots.{isLive}
 use Rattle.tree.specs.States.{isId}
-use Rattle.tree.specs.Hit.{hitTest}
+use Rattle.tree.specs.Input.{hitTest}
+use Rattle.tree.specs.Hit.{hitAt}
 use Rattle.tree.specs.Fields.{fieldOf}
 use Rattle.tree.specs.Trees.{limitOf, withFields, withInteraction, withWaiting}
 use Rattle.tree.specs.declared.Interaction.{Interaction}
-use Rattle.tree.specs.declared.Pointer.{Pointer}
+use Rattle.tree.specs.Types.{Pointer}
 use Rattle.tree.specs.declared.Ui.{Ui}
 use Rattle.desk.specs.Events.{activated, activate, foldedBy, hasChanged, keyedField, editFold, editField, editFocused, releasedOn, appliedEvent, hitOf}
 use Rattle.desk.specs.declared.UiEvent.{UiEvent}
@@ -32,7 +33,7 @@ pub record Stays (u v : Ui) : Type 0 where
 nothing-moves : (u : Ui) → Stays u u
 nothing-moves u = record { slots = refl; layout = refl; pointer = refl }
 
-either-stays : (u : Ui) (b : Bool) (v w : Ui) → Stays u v → Stays u w → Stays u (pick b v w)
+either-stays : (u : Ui) (b : Bool) (v w : Ui) → Stays u v → Stays u w → Stays u (cond b v w)
 either-stays u true v w p q = p
 either-stays u false v w p q = q
 
@@ -47,7 +48,7 @@ release-stays u hit Absent = record { slots = refl; layout = refl; pointer = ref
 release-stays u hit (Present d) =
     either-stays u (isId hit d) _ _ (activate-stays u d) (record { slots = refl; layout = refl; pointer = refl })
 
-fold-stays : (b : Bool) (a : Interaction) (n : ℕ) → pick b (foldedBy a n) a .pointer ≡ a .pointer
+fold-stays : (b : Bool) (a : Interaction) (n : ℕ) → cond b (foldedBy a n) a .pointer ≡ a .pointer
 fold-stays true a n = refl
 fold-stays false a n = refl
 
@@ -87,7 +88,7 @@ hit-once u (Edit op) q e = refl
 
 -- A hit test reads only slots and boxes.
 hit-of : (u v : Ui) (q : Pointer) → v .slots ≡ u .slots → v .layout ≡ u .layout → hitTest v q ≡ hitTest u q
-unfolding hitTest
+unfolding hitAt
 hit-of u v q a b = rw (a, b)
 
 -- So may the hover after it.

@@ -2,16 +2,16 @@
 -- tree's state, and a law for each says that a call may change that share alone. So a call's proof is about what it changes, and a field more of the
 -- state belongs to one part. Assumes nothing.
 use mathlib.Core.Path.{_≡_, refl, sym, ap, subst, _∙_}
-use mathlib.Core.Bool.{Bool, true, false}
+use mathlib.Core.Bool.{Bool, true, false, cond}
 use mathlib.Core.List.{List}
-use Prim.Native.Nat.{ℕ, suc, _-_, _≤_, _<_}
+use Prim.Native.Nat.{ℕ, suc, _≤_, _<_}
 use native.Mathlib.Omega.{arith}
 use lib.ListN.{length, getD, take, drop, length-append, length-drop}
 use Rattle.field.specs.Text.{Text}
 use Rattle.field.specs.declared.NodeId.{NodeId}
 use Rattle.field.specs.declared.MaybeId.{MaybeId}
 use Rattle.field.specs.declared.Field.{Field}
-use Rattle.tree.specs.Tests.{pick, occ, Maybe, nothing, just}
+use Rattle.arithmetic.specs.Tests.{occ, Maybe, nothing, just}
 use Rattle.tree.specs.Slots.{Slots, at}
 use Rattle.tree.specs.Styles.{freshState, stateAt}
 use Rattle.tree.specs.Forest.{Forest, mapF}
@@ -21,20 +21,16 @@ use Rattle.tree.specs.Rules.{distinct}
 use Rattle.tree.specs.Trees.{limitOf, poolOf, withInteraction, withFields, withWaiting}
 use Rattle.tree.specs.Calls.{nobody}
 use Rattle.tree.specs.declared.Ui.{Ui}
-use Rattle.tree.specs.declared.Rect.{Rect}
-use Rattle.tree.specs.declared.LayoutSlot.{LayoutSlot}
-use Rattle.tree.specs.declared.StateSlot.{StateSlot}
-use Rattle.tree.specs.declared.StatePatch.{StatePatch}
-use Rattle.tree.specs.declared.Viewport.{Viewport}
+use Rattle.tree.specs.Types.{Rect, LayoutSlot, StateSlot, StatePatch, Viewport}
 use Rattle.tree.specs.declared.Interaction.{Interaction}
 use Rattle.tree.proofs.ForestLaws.{cnt}
 use Rattle.tree.proofs.Payloads.{AllF, shape, all-map, all-mapF, shape-map}
 use Rattle.tree.proofs.Rounds.{Worn, Sized}
 use Rattle.tree.proofs.PassLaws.{Boxed, placing-keeps-what-boxes-leave-alone, placing-keeps-the-shape}
 use Rattle.tree.proofs.WellLaws.{StatesWell}
-use Rattle.tree.proofs.Parts.{Links, Naming, Dress, Pool, Texts, Queue, textIn}
+use Rattle.tree.proofs.Relation.{Links, Naming, Styled, Pool, Texts, Queue, textIn}
 use Rattle.tree.proofs.ShapeParts.{links-after, links-of-shape, naming-by-shape, texts-by-shape}
-use Rattle.tree.proofs.FieldParts.{retexted, texts-keep-dress, texts-keep-naming}
+use Rattle.tree.proofs.FieldParts.{retexted, texts-keep-styling, texts-keep-naming}
 use Rattle.desk.specs.History.{History, Styling, Input, withStyling, withNames, withInput, withTree, idNamed}
 
 -- a name that was made
@@ -64,7 +60,7 @@ pub record NodesAgree (k : ℕ) (u : Ui) (limit : ℕ) (t : Forest Info) (named 
   pub limit-is : limitOf u ≡ limit
 
 pub record StylingAgrees (u : Ui) (t : Forest Info) (b : Styling) : Type 0 where
-  pub dress : Dress u t
+  pub styled : Styled u t
   pub pool : Pool u
   pub pool-is : poolOf u ≡ b .pool
   pub view-is : u .«solved_for» ≡ b .viewport
@@ -138,7 +134,7 @@ module _ {u u′ : Ui} where
     limit-is = ap (λ (s : NodeState). s .limit) e ∙ n .limit-is;
   }
 
-  dress-by : {t : Forest Info} → styleState u′ ≡ styleState u → Dress u t → Dress u′ t
+  dress-by : {t : Forest Info} → styleState u′ ≡ styleState u → Styled u t → Styled u′ t
   dress-by {t} e d = record {
     sized = subst (λ (s : StyleState). Sized (record { layout = s .layout; states = s .states; dirty = s .dirty })) (sym e) (d .sized);
     worn = subst (λ (s : StyleState). AllF (λ i g x. Worn (s .layout) (s .states) i x) t) (sym e) (d .worn);
@@ -165,10 +161,10 @@ module _ {u u′ : Ui} where
   }
 
   -- other looks under the same pool and viewport
-  pub styling-under : {t t′ : Forest Info} {b : Styling} {d : Bool} → poolState u′ ≡ poolState u → StylingAgrees u t b → Dress u′ t′ → u′ .dirty ≡ d
+  pub styling-under : {t t′ : Forest Info} {b : Styling} {d : Bool} → poolState u′ ≡ poolState u → StylingAgrees u t b → Styled u′ t′ → u′ .dirty ≡ d
       → StylingAgrees u′ t′ (record { pool = b .pool; viewport = b .viewport; dirty = d })
   styling-under e s dr ed = record {
-    dress = dr;
+    styled = dr;
     pool = pool-by e (s .pool);
     pool-is = ap (λ (p : PoolState). take (p .count) (p .patches)) e ∙ s .pool-is;
     view-is = ap (λ (p : PoolState). p .viewport) e ∙ s .view-is;
@@ -176,7 +172,7 @@ module _ {u u′ : Ui} where
   }
 
   styling-by : {t : Forest Info} {b : Styling} → styleState u′ ≡ styleState u → StylingAgrees u t b → StylingAgrees u′ t b
-  styling-by e s = styling-under (ap (λ (p : StyleState). p .pool) e) s (dress-by e (s .dress)) (ap (λ (p : StyleState). p .dirty) e ∙ s .dirty-is)
+  styling-by e s = styling-under (ap (λ (p : StyleState). p .pool) e) s (dress-by e (s .styled)) (ap (λ (p : StyleState). p .dirty) e ∙ s .dirty-is)
 
 -- ---- nodes that keep place, name and text
 
@@ -190,10 +186,10 @@ same-nodes-each w e t = record {
   keeps = λ P q a. all-mapF P w t (all-map P (λ i g x. P i g (w i g x)) t (λ i g x _ p. q i g x (w i g x) (e i g x .0) (e i g x .1) p) a);
 }
 
-pub same-nodes-some : (b : ℕ → ℕ → Bool) (f : Info → Info) → ((x : Info) → (f x .name ≡ x .name) × (f x .text ≡ x .text)) → (t : Forest Info) → SameNodes t (mapF (λ i g x. pick (b i g) (f x) x) t)
-same-nodes-some b f e t = same-nodes-each (λ i g x. pick (b i g) (f x) x) (λ i g x. go (b i g) x) t
+pub same-nodes-some : (b : ℕ → ℕ → Bool) (f : Info → Info) → ((x : Info) → (f x .name ≡ x .name) × (f x .text ≡ x .text)) → (t : Forest Info) → SameNodes t (mapF (λ i g x. cond (b i g) (f x) x) t)
+same-nodes-some b f e t = same-nodes-each (λ i g x. cond (b i g) (f x) x) (λ i g x. go (b i g) x) t
   where
-    go : (c : Bool) (x : Info) → (pick c (f x) x .name ≡ x .name) × (pick c (f x) x .text ≡ x .text)
+    go : (c : Bool) (x : Info) → (cond c (f x) x .name ≡ x .name) × (cond c (f x) x .text ≡ x .text)
     go true x = e x
     go false x = (refl, refl)
 
@@ -237,7 +233,7 @@ besideStyling u = record { nodes = nodeState u; queue = queueState u; interactio
 module _ {k : ℕ} {u : Ui} {h : History} (v : Inv k u h) where
   -- nodes came or went: a pass is due
   pub with-nodes : {u′ : Ui} {t′ : Forest Info} {named′ : List NodeId} → besideNodes u′ ≡ besideNodes u → u′ .dirty ≡ true
-      → NodesAgree (suc k) u′ (h .limit) t′ named′ → Dress u′ t′ → InputAgrees (u .interaction) named′ (h .input)
+      → NodesAgree (suc k) u′ (h .limit) t′ named′ → Styled u′ t′ → InputAgrees (u .interaction) named′ (h .input)
       → Inv (suc k) u′ (withNames (withTree h t′ true) named′)
   with-nodes {u′} {t′} {named′} e ed n d i = record {
     nodes = n;
@@ -268,7 +264,7 @@ module _ {k : ℕ} {u : Ui} {h : History} (v : Inv k u h) where
       root-is = v .nodes .root-is;
       limit-is = v .nodes .limit-is;
     };
-    styling = styling-under refl (v .styling) (dress-by refl (texts-keep-dress b y u (h .tree) (v .styling .dress))) (v .styling .dirty-is);
+    styling = styling-under refl (v .styling) (dress-by refl (texts-keep-styling b y u (h .tree) (v .styling .styled))) (v .styling .dirty-is);
     input = v .input;
     queue = queue-by refl (v .queue);
   }

@@ -1,6 +1,6 @@
 -- A key edits the field of the node in focus, and the text of the node that the history's focus names: the same node, if it lives. Assumes nothing.
 use mathlib.Core.Path.{_≡_, refl, sym, subst, _∙_}
-use mathlib.Core.Bool.{true, _&&_}
+use mathlib.Core.Bool.{true, _&&_, cond}
 use mathlib.Core.List.{List}
 use Prim.Native.Nat.{ℕ, _+_, _<_}
 use lib.Dec.{leb}
@@ -14,7 +14,7 @@ use Rattle.field.specs.declared.Field.{Field}
 use Rattle.field.specs.declared.EditOp.{EditOp}
 use Rattle.field.specs.declared.EditOp.the-variants.{Backspace, Delete, Left, Right, Home, End}
 use Rattle.field.proofs.Laws.{edit-keeps-the-rules, edit-keeps-64-bytes, edit-is-the-texts, insert-keeps-the-rules, insert-keeps-64-bytes, insert-is-the-texts}
-use Rattle.tree.specs.Tests.{pick, Maybe, nothing, just}
+use Rattle.arithmetic.specs.Tests.{Maybe, nothing, just}
 use Rattle.tree.specs.States.{sameId}
 use Rattle.tree.specs.Forest.{Forest, nil, node, hasId, mapF}
 use Rattle.tree.specs.Nodes.{Info, withField, isNamed, changeNamed}
@@ -23,10 +23,10 @@ use Rattle.tree.specs.Trees.{withInteraction, withFields}
 use Rattle.tree.specs.Calls.{nobody}
 use Rattle.tree.specs.declared.Ui.{Ui}
 use Rattle.tree.specs.declared.Interaction.{Interaction}
-use Rattle.tree.proofs.TestLaws.{bool-cases}
+use Rattle.arithmetic.proofs.TestLaws.{bool-cases}
 use Rattle.tree.proofs.Payloads.{AllF}
 use Rattle.tree.proofs.Ids.{live-just-where-a-node-has-it}
-use Rattle.tree.proofs.Parts.{Texts}
+use Rattle.tree.proofs.Relation.{Texts}
 use Rattle.tree.proofs.FieldParts.{retexted, edit-keeps-texts, no-edit-of-a-dead-id, no-edit-without-a-field, unchanged-at-each-node}
 use Rattle.desk.specs.Events.{keyedField, hasChanged, editFold, foldedBy, editField, editFocused}
 use Rattle.desk.specs.History.{History, withTree, idNamed, keyText, mapMaybe, typedInto}
@@ -113,7 +113,7 @@ module _ {k : ℕ} {u : Ui} {h : History} (v : Inv k u h) (key : Key) where
   key-into : (fo : Maybe ℕ) → NameIn (h .named) fo → Inv k (editFocused u key (idNamed (h .named) fo)) (withTree h (changeNamed fo (λ x. withField x (mapMaybe (keyText key) (x .text))) (h .tree)) (h .styling .dirty))
   key-into nothing n =
       subst (λ (t : Forest Info). Inv k u (withTree h t (h .styling .dirty)))
-      (sym (unchanged-at-each-node (λ i g x. pick (isNamed nothing x) (withField x (mapMaybe (keyText key) (x .text))) x) (h .tree) (of-all-nodes _ (λ i g x. refl) (h .tree)))) v
+      (sym (unchanged-at-each-node (λ i g x. cond (isNamed nothing x) (withField x (mapMaybe (keyText key) (x .text))) x) (h .tree) (of-all-nodes _ (λ i g x. refl) (h .tree)))) v
   key-into (just m) n = into-the-node k u h v key (just m) m n refl
 
   pub key-agrees : Inv k (editFocused u key (u .interaction .focus)) (typedInto h key)

@@ -1,6 +1,6 @@
 -- An id means a node just where the name does: every node has the id at the place of its name, and no two such ids are equal. Assumes nothing.
 use mathlib.Core.Path.{_≡_, refl, sym, ap, subst, _∙_}
-use mathlib.Core.Bool.{true, false}
+use mathlib.Core.Bool.{true, false, cond}
 use mathlib.Core.List.{List}
 use Prim.Native.Nat.{ℕ, _+_, _<_}
 use native.Mathlib.Omega.{arith}
@@ -8,21 +8,22 @@ use lib.ListN.{length, getD}
 use Rattle.field.specs.declared.NodeId.{NodeId}
 use Rattle.field.specs.declared.MaybeId.{MaybeId}
 use Rattle.field.specs.declared.MaybeId.the-variants.{Present}
-use Rattle.tree.specs.Tests.{pick, Maybe, nothing, just}
+use Rattle.arithmetic.specs.Tests.{Maybe, nothing, just}
 use Rattle.tree.specs.Slots.{Slots, at, idAt}
-use Rattle.tree.specs.States.{sameId, isId, bitsOf, bitsAt}
+use Rattle.tree.specs.States.{sameId, isId, bitsOf}
+use Rattle.tree.specs.Wearing.{bitsAt}
 use Rattle.tree.specs.Forest.{Forest}
 use Rattle.tree.specs.Nodes.{Info, isNamed, bitsFor}
 use Rattle.tree.specs.Trees.{limitOf}
 use Rattle.tree.specs.Calls.{nobody}
 use Rattle.tree.specs.declared.Ui.{Ui}
-use Rattle.tree.proofs.TestLaws.{eq-cases, same-yes}
+use Rattle.arithmetic.proofs.TestLaws.{eq-cases, same-yes}
 use Rattle.tree.proofs.ForestLaws.{cnt}
 use Rattle.tree.proofs.Payloads.{AllF, all-map, all-both}
 use Rattle.tree.proofs.Ids.{nodes-have-their-slots-generation}
 use Rattle.tree.proofs.HitLaws.{Names}
 use Rattle.tree.proofs.HitLaws.Names.{neither, one-node}
-use Rattle.tree.proofs.Parts.{Below, Links, Naming}
+use Rattle.tree.proofs.Relation.{Below, Links, Naming}
 use Rattle.desk.specs.History.{idNamed}
 use Rattle.desk.proofs.Invariant.{NameIn, NamedBy, OwnName}
 
@@ -115,4 +116,4 @@ module _ (k : ℕ) (u : Ui) (t : Forest Info) (named : List NodeId) (l : Links k
       let x = no-id-of-a-dead-slot (u .slots) t named n o hover hn j c in
       let y = no-id-of-a-dead-slot (u .slots) t named n (u .interaction .pressed) pressed pn j c in
       let z = no-id-of-a-dead-slot (u .slots) t named n (u .interaction .focus) focus fn j c in
-      λ i. pick (x i) 1 0 + pick (y i) 2 0 + pick (z i) 4 0
+      λ i. cond (x i) 1 0 + cond (y i) 2 0 + cond (z i) 4 0

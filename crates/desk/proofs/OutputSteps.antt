@@ -1,5 +1,5 @@
 -- The waiting outputs in their array: one more behind them, and the oldest gone. Assumes nothing.
-use Prim.Native.Nat.{ℕ, zero, suc, _+_, _-_, _<_, _≤_}
+use Prim.Native.Nat.{ℕ, zero, suc, _+_, _<_, _≤_}
 use mathlib.Core.Path.{_≡_, refl, sym, ap, _∙_}
 use mathlib.Core.List.{List, [], _∷_, _++_, append-assoc}
 use native.Mathlib.Numerals.{add-one}
@@ -7,7 +7,7 @@ use native.Mathlib.Omega.{arith}
 use lib.ListN.{length, getD, set, take, drop, length-append}
 use lib.Seq.{drop-cons, take-suc, set-at, set-split, length-take-le}
 use Rattle.field.specs.declared.NodeId.{NodeId}
-use Rattle.tree.specs.Trees.{over}
+use Rattle.arithmetic.specs.Tests.{over}
 
 -- ---- one more
 pub one-more-waits : (l : List NodeId) (k : ℕ) → k ≤ length l → (d : NodeId) → length (take k l ++ d ∷ []) ≡ k + 1

@@ -1,7 +1,8 @@
 -- A move, a press and a release do to the tree what they do to the history. Assumes nothing.
+use mathlib.Core.Bool.{cond}
 use mathlib.Core.Path.{_≡_, refl, sym, ap, subst, _∙_}
 use mathlib.Core.List.{[], _∷_, _++_}
-use Prim.Native.Nat.{ℕ, _+_, _-_, _≤_, _<_}
+use Prim.Native.Nat.{ℕ, _≤_, _<_}
 use native.Mathlib.Omega.{arith}
 use borrow.Author.Tests.{ltb-true}
 use lib.Dec.{ltb}
@@ -10,13 +11,13 @@ use lib.ListN.{length, getD, length-append}
 use lib.Seq.{length-take-le}
 use Rattle.field.specs.declared.MaybeId.{MaybeId}
 use Rattle.field.specs.declared.MaybeId.the-variants.{Absent, Present}
-use Rattle.tree.specs.Tests.{pick, Maybe, nothing, just}
+use Rattle.arithmetic.specs.Tests.{Maybe, nothing, just}
 use Rattle.tree.specs.States.{isId}
 use Rattle.tree.specs.Trees.{limitOf, waitingOf, withInteraction}
 use Rattle.tree.specs.Calls.{nobody}
 use Rattle.tree.specs.declared.Ui.{Ui}
-use Rattle.tree.proofs.TestLaws.{bool-cases, eq-cases}
-use Rattle.tree.proofs.Parts.{Queue}
+use Rattle.arithmetic.proofs.TestLaws.{bool-cases, eq-cases}
+use Rattle.tree.proofs.Relation.{Queue}
 use Rattle.desk.specs.Events.{pressedOn, activated, activate, releasedOn, appliedEvent, hitOf}
 use Rattle.desk.specs.History.{History, Input, withInput, idNamed, hitName, sameName, afterEvent}
 use Rattle.desk.specs.declared.UiEvent.the-variants.{PointerMoved, PointerPressed, PointerReleased}
@@ -67,7 +68,7 @@ module _ {k : ℕ} {u : Ui} {h : History} (v : Inv k u h) where
       (λ _ q. q ∙ sym s))
 
   abbrev released : Maybe ℕ → History
-  released pr = withInput h (record { pointer = h .input .pointer; pressed = nothing; focus = pick (sameName pr (hitName h)) pr (h .input .focus) })
+  released pr = withInput h (record { pointer = h .input .pointer; pressed = nothing; focus = cond (sameName pr (hitName h)) pr (h .input .focus) })
 
   release-of : (pr : Maybe ℕ) → NameIn (h .named) pr → Inv k (releasedOn u (hitOf u) (idNamed (h .named) pr)) (released pr)
   release-of nothing n = press-ends

@@ -5,12 +5,12 @@ use Prim.Native.Nat.{ℕ}
 use Rattle.text.specs.Refusal.{Answer}
 use Rattle.field.specs.declared.MaybeId.{MaybeId}
 use Rattle.field.specs.declared.MaybeId.the-variants.{Absent}
-use Rattle.tree.specs.Tests.{same}
+use Rattle.arithmetic.specs.Tests.{same}
 use Rattle.tree.specs.Calls as tree
 use Rattle.tree.specs.Calls.{Outcome}
 use Rattle.tree.specs.declared.Ui.{Ui}
-use Rattle.tree.specs.declared.Rect.{Rect}
-use Rattle.tree.proofs.TestLaws.{bool-cases}
+use Rattle.tree.specs.Types.{Rect}
+use Rattle.arithmetic.proofs.TestLaws.{bool-cases}
 use Rattle.tree.proofs.ReadParts.{live-answers-whether-a-node-has-it, children-by-the-links-are-the-nodes, field-text-answers-the-nodes-text, field-cursor-answers-the-nodes-caret, metres-of-the-field-are-the-nodes, rect-answers-the-nodes-box}
 use Rattle.desk.specs.Events as desk
 use Rattle.desk.specs.History.{History, Question, refusalOf, refusalOfQuestion, accept, recorded, textSaid, caretSaid, metresSaid, rectSaid}
@@ -32,7 +32,7 @@ module _ {k : ℕ} {u : Ui} {h : History} (v : Inv k u h) where
         text-is = field-text-answers-the-nodes-text l b (v .nodes .texts);
         caret-is = field-cursor-answers-the-nodes-caret l b (v .nodes .texts);
         metres-are = metres-of-the-field-are-the-nodes l b (v .nodes .texts);
-        rect-is = rect-answers-the-nodes-box l b (v .styling .dress .boxed);
+        rect-is = rect-answers-the-nodes-box l b (v .styling .styled .boxed);
         focus-is = v .input .focus .is-id;
       }
 

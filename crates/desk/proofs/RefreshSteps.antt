@@ -3,18 +3,17 @@ use mathlib.Core.Path.{refl, ap₂, subst, _∙_}
 use mathlib.Core.Bool.{Bool, _||_}
 use mathlib.Core.List.{List}
 use Prim.Native.Nat.{ℕ}
-use Rattle.tree.specs.Tests.{nothing}
-use Rattle.tree.specs.States.{refreshed}
+use Rattle.arithmetic.specs.Tests.{nothing}
+use Rattle.tree.specs.Wearing.{refreshed}
 use Rattle.tree.specs.Forest.{mapF, anyF}
 use Rattle.tree.specs.Nodes.{Info, wears, swaps, hitF}
-use Rattle.tree.specs.Hit.{hitTest}
-use Rattle.tree.specs.Trees.{withLooks, withStated}
+use Rattle.tree.specs.Input.{hitTest}
+use Rattle.tree.specs.Trees.{withStyles, withStated}
 use Rattle.tree.specs.declared.Ui.{Ui}
-use Rattle.tree.specs.declared.Pointer.{Pointer}
-use Rattle.tree.specs.declared.StatePatch.{StatePatch}
+use Rattle.tree.specs.Types.{Pointer, StatePatch}
 use Rattle.tree.proofs.HitLaws.{Names, the-hit-test-names-the-forests-node}
-use Rattle.tree.proofs.Parts.{Dress}
-use Rattle.tree.proofs.LookParts.{refresh-keeps-dress, refresh-dirties}
+use Rattle.tree.proofs.Relation.{Styled}
+use Rattle.tree.proofs.StylingParts.{refresh-keeps-styling, refresh-dirties}
 use Rattle.desk.specs.Events.{hitOf}
 use Rattle.desk.specs.History.{History, hitName, bitsIn, refresh}
 use Rattle.desk.proofs.Invariant.{NamedBy, Inv, styling-under, same-nodes-each, with-styling}
@@ -27,10 +26,10 @@ module _ {k : ℕ} {u : Ui} {h : History} (v : Inv k u h) where
   hits-agree =
       hit-is-named (u .slots) (h .tree) (h .named) (v .nodes .naming) (hitOf u) (hitName h)
       (subst (λ (p : Pointer). Names (h .tree) (hitTest u (u .interaction .pointer)) (hitF p nothing (h .tree))) (v .input .pointer-is)
-      (the-hit-test-names-the-forests-node u (u .interaction .pointer) (v .nodes .links .rel) (v .styling .dress .boxed)))
+      (the-hit-test-names-the-forests-node (u .slots) (u .layout) (u .interaction .pointer) (v .nodes .links .rel) (v .styling .styled .boxed)))
 
   pub refresh-agrees : Inv k (refreshed u (hitOf u)) (refresh h)
-  unfolding refresh refreshed withStated withLooks wears
+  unfolding refresh refreshed withStated withStyles wears
   refresh-agrees =
       let t = h .tree in
       let n = v .nodes in
@@ -40,6 +39,6 @@ module _ {k : ℕ} {u : Ui} {h : History} (v : Inv k u h) where
       let none = no-bits-of-dead-slots k u t (h .named) (n .links) (n .naming) (hitOf u) (hitName h) (h .input .pressed) (h .input .focus) hits-agree (v .input .pressed) (v .input .focus) in
       with-styling v refl (same-nodes-each (λ i g x. wears (h .styling .pool) (bits i g x) x) (λ i g x. (refl, refl)) t)
       (styling-under refl s
-      (subst (λ (q : List StatePatch). Dress (refreshed u (hitOf u)) (mapF (λ i g x. wears q (bits i g x) x) t)) (s .pool-is) (refresh-keeps-dress k u t (n .links) (s .dress) (hitOf u) bits agree none))
-      (refresh-dirties k u t (n .links) (s .dress) (hitOf u) bits agree none
+      (subst (λ (q : List StatePatch). Styled (refreshed u (hitOf u)) (mapF (λ i g x. wears q (bits i g x) x) t)) (s .pool-is) (refresh-keeps-styling k u t (n .links) (s .styled) (hitOf u) bits agree none))
+      (refresh-dirties k u t (n .links) (s .styled) (hitOf u) bits agree none
       ∙ ap₂ (λ (b : Bool) (q : List StatePatch). b || anyF (λ i g x. swaps q (bits i g x) x) t) (s .dirty-is) (s .pool-is)))

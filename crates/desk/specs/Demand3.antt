@@ -5,14 +5,14 @@
 -- the focus, and of no other ship's; a field into which no key fell is empty and reads as 9, never as 0; its box is that of the last pass.
 use Prim.Native.Nat.{ℕ, zero, suc, _+_, _<_, _^_}
 use mathlib.Core.Path.{_≡_}
-use mathlib.Core.Bool.{false}
+use mathlib.Core.Bool.{false, cond}
 use mathlib.Core.List.{List, [], _∷_, _++_}
 use lib.ListN.{length}
 use Rattle.text.specs.Refusal.{accepted}
 use Rattle.field.specs.declared.NodeId.{NodeId}
 use Rattle.field.specs.declared.MaybeId.{MaybeId}
 use Rattle.field.specs.declared.MaybeId.the-variants.{Absent, Present}
-use Rattle.tree.specs.Tests.{pick, same}
+use Rattle.arithmetic.specs.Tests.{same}
 use Rattle.tree.specs.States.{sameId}
 use Rattle.tree.specs.Forest.{hasId, kidsOf, ids}
 use Rattle.tree.specs.Calls as tree
@@ -78,7 +78,7 @@ feed u [] = []
 feed u (c ∷ cs) = step u c .told ∷ feed (step u c .next) cs
 
 abbrev pub idGiven : Call → Step → List NodeId
-idGiven (insert d) s = pick (same (s .number) 0) (s .told ∷ []) []
+idGiven (insert d) s = cond (same (s .number) 0) (s .told ∷ []) []
 idGiven (change c) s = []
 idGiven (ask q) s = []
 

@@ -1,6 +1,6 @@
 -- Document 01, **Input** and **Metres**: each event, the oldest output, the fingerprint, and metres by node.
-use Prim.Native.Nat.{ℕ, _+_}
-use mathlib.Core.Bool.{Bool, _&&_, not}
+use Prim.Native.Nat.{ℕ}
+use mathlib.Core.Bool.{Bool, _&&_, not, cond}
 use mathlib.Core.List.{List, [], _∷_, _++_}
 use lib.Dec.{ltb}
 use Rattle.arithmetic.specs.Scalar.{incremented, unsignedOf}
@@ -14,15 +14,16 @@ use Rattle.field.specs.declared.MaybeId.the-variants.{Absent, Present}
 use Rattle.field.specs.declared.Field.{Field}
 use Rattle.field.specs.declared.EditOp.{EditOp}
 use Rattle.field.specs.declared.EditOp.the-variants.{Backspace, Delete, Left, Right, Home, End}
-use Rattle.tree.specs.Tests.{pick, same, Maybe, nothing, just}
+use Rattle.arithmetic.specs.Tests.{same, Maybe, nothing, just}
 use Rattle.tree.specs.Slots.{isLive}
-use Rattle.tree.specs.States.{isId, refreshed}
-use Rattle.tree.specs.Hit.{hitTest}
+use Rattle.tree.specs.States.{isId}
+use Rattle.tree.specs.Wearing.{refreshed}
+use Rattle.tree.specs.Input.{hitTest}
 use Rattle.tree.specs.Fields.{owns, fieldOf, changeFirst}
 use Rattle.tree.specs.Trees.{limitOf, waitingOf, withFields, withInteraction, withWaiting}
 use Rattle.tree.specs.Calls.{Outcome, gives, guarded, onField}
 use Rattle.tree.specs.declared.Ui.{Ui}
-use Rattle.tree.specs.declared.Pointer.{Pointer}
+use Rattle.tree.specs.Types.{Pointer}
 use Rattle.tree.specs.declared.Interaction.{Interaction}
 use Rattle.desk.specs.declared.UiEvent.{UiEvent}
 use Rattle.desk.specs.declared.UiEvent.the-variants.{PointerMoved, PointerPressed, PointerReleased, TextEntered, Edit}
@@ -56,19 +57,19 @@ activated a d lost = record {
   activations = incremented (a .activations);
   decisions = absorbed emptyHash (lowBytes 8 (a .decisions) ++ idBytes d) .state;
   «edit_fold» = a .«edit_fold»;
-  overflowed = pick (same lost 0) (a .overflowed) (incremented (a .overflowed));
+  overflowed = cond (same lost 0) (a .overflowed) (incremented (a .overflowed));
 }
 
 unfoldable pub activate : Ui → NodeId → Ui
 activate u d =
-    pick (ltb (u .«output_count») (limitOf u))
+    cond (ltb (u .«output_count») (limitOf u))
     (withInteraction (withWaiting u (waitingOf u ++ d ∷ [])) (activated (u .interaction) d 0))
     (withInteraction u (activated (u .interaction) d 1))
 
 -- A release on the very node of the press activates it; every release ends the press.
 abbrev pub releasedOn : Ui → MaybeId → MaybeId → Ui
 releasedOn u hit Absent = withInteraction u (pressedOn (u .interaction) Absent)
-releasedOn u hit (Present d) = pick (isId hit d) (activate u d) (withInteraction u (pressedOn (u .interaction) Absent))
+releasedOn u hit (Present d) = cond (isId hit d) (activate u d) (withInteraction u (pressedOn (u .interaction) Absent))
 
 -- A key's edit, its kind and its number for the fold.
 abbrev pub keyedField : Key → Field → Field
@@ -99,11 +100,11 @@ abbrev pub editField : Ui → NodeId → Key → Maybe Field → Ui
 editField u d key nothing = u
 editField u d key (just f) =
     withInteraction (withFields u (changeFirst (owns d) (keyedField key) (u .fields)))
-    (pick (hasChanged f (keyedField key f)) (foldedBy (u .interaction) (editFold u d key)) (u .interaction))
+    (cond (hasChanged f (keyedField key f)) (foldedBy (u .interaction) (editFold u d key)) (u .interaction))
 
 abbrev pub editFocused : Ui → Key → MaybeId → Ui
 editFocused u key Absent = u
-editFocused u key (Present d) = pick (isLive (limitOf u) (u .slots) d) (editField u d key (fieldOf d (u .fields))) u
+editFocused u key (Present d) = cond (isLive (limitOf u) (u .slots) d) (editField u d key (fieldOf d (u .fields))) u
 
 -- An event before the bits are refreshed, with `hit` the node under the pointer.
 abbrev pub appliedEvent : Ui → MaybeId → UiEvent → Ui

@@ -1,7 +1,7 @@
 -- Document 01, "The history of demand 3". It is fed the new tree's limit and each call with its arguments, and of the answers only the id
 -- that an accepted insert gives. Press, focus and the field of a key are names: a name is made at each accepted insert and used once.
 use Prim.Native.Nat.{ℕ, _+_, _-_}
-use mathlib.Core.Bool.{Bool, true, false, _&&_, _||_, not}
+use mathlib.Core.Bool.{Bool, true, false, _&&_, _||_, not, cond}
 use mathlib.Core.List.{List, [], _∷_, _++_}
 use lib.Dec.{ltb}
 use lib.IntN.{pos}
@@ -14,18 +14,14 @@ use Rattle.field.specs.Metres.{metresOf}
 use Rattle.field.specs.declared.NodeId.{NodeId}
 use Rattle.field.specs.declared.MaybeId.{MaybeId}
 use Rattle.field.specs.declared.MaybeId.the-variants.{Absent, Present}
-use Rattle.tree.specs.Tests.{pick, same, all, Maybe, nothing, just}
+use Rattle.arithmetic.specs.Tests.{same, all, Maybe, nothing, just}
 use Rattle.tree.specs.Styles.{noPatch, noRect}
 use Rattle.tree.specs.States.{inPool, sameId}
 use Rattle.tree.specs.Layout.{viewRect}
 use Rattle.tree.specs.Forest.{Forest, nil, node, app, hasBoth, hasId, kidsOf, setKidsOf, cutOf, find, size, mapF, anyF}
 use Rattle.tree.specs.Nodes.{Info, newInfo, withField, changeOf, changeNamed, wears, swaps, bitsFor, restyled, withTable, bare, placeF, hitF, hasField, bit}
 use Rattle.tree.specs.Calls.{Shown, noText, nobody, sameView}
-use Rattle.tree.specs.declared.Style.{Style}
-use Rattle.tree.specs.declared.Rect.{Rect}
-use Rattle.tree.specs.declared.StatePatch.{StatePatch}
-use Rattle.tree.specs.declared.Viewport.{Viewport}
-use Rattle.tree.specs.declared.Pointer.{Pointer}
+use Rattle.tree.specs.Types.{Style, Rect, StatePatch, Viewport, Pointer}
 use Rattle.desk.specs.declared.UiEvent.{UiEvent}
 use Rattle.desk.specs.declared.UiEvent.the-variants.{PointerMoved, PointerPressed, PointerReleased, TextEntered, Edit}
 use Rattle.desk.specs.declared.Key.{Key}
@@ -82,7 +78,7 @@ rootId = record { index = 0; generation = 1 }
 
 -- A limit of 0 means 1, and so does one above 128, which is refused.
 unfoldable pub limitFrom : ℕ → ℕ
-limitFrom limit = pick (ltb 128 limit) 1 (pick (same limit 0) 1 limit)
+limitFrom limit = cond (ltb 128 limit) 1 (cond (same limit 0) 1 limit)
 
 unfoldable pub start : ℕ → History
 start limit′ = record {
@@ -142,7 +138,7 @@ rectSaid h d = ofNode noRect (λ x. accepted (x .rect)) (find d (h .tree))
 
 -- The refusal number of a call, by document 01's table; 0 where it is accepted. Number 1 never comes.
 abbrev pub unless : Bool → ℕ → ℕ → ℕ
-unless b n m = pick b m n
+unless b n m = cond b m n
 
 abbrev pub refusalOfField : History → Maybe Info → ℕ
 refusalOfField h nothing = numberOf Missing
@@ -210,7 +206,7 @@ abbrev pub afterEvent : History → UiEvent → History
 afterEvent h (PointerMoved x′ y′) = withInput h (record { pointer = record { x = x′; y = y′ }; pressed = h .input .pressed; focus = h .input .focus })
 afterEvent h PointerPressed = withInput h (record { pointer = h .input .pointer; pressed = hitName h; focus = h .input .focus })
 afterEvent h PointerReleased =
-    withInput h (record { pointer = h .input .pointer; pressed = nothing; focus = pick (sameName (h .input .pressed) (hitName h)) (h .input .pressed) (h .input .focus) })
+    withInput h (record { pointer = h .input .pointer; pressed = nothing; focus = cond (sameName (h .input .pressed) (hitName h)) (h .input .pressed) (h .input .focus) })
 afterEvent h (TextEntered ch) = typedInto h (Char ch)
 afterEvent h (Edit op) = typedInto h (Op op)
 
@@ -237,7 +233,7 @@ afterChange h (setPatchPool patches count) =
     (record { pool = take count patches; viewport = h .styling .viewport; dirty = h .styling .dirty || anyF (λ i g x. not (same (x .applied) noPatch)) (h .tree) })
 afterChange h (makeField d) = withTree h (changeOf d (λ x. withField x (keepText (x .text))) (h .tree)) (h .styling .dirty)
 afterChange h (solve v) =
-    pick (not (h .styling .dirty) && sameView (h .styling .viewport) v) h
+    cond (not (h .styling .dirty) && sameView (h .styling .viewport) v) h
     (withStyling h (placeF (h .tree) (viewRect v ∷ [])) (record { pool = h .styling .pool; viewport = v; dirty = false }))
 afterChange h (handle e) = refresh (afterEvent h e)
 afterChange h nextOutput = h
@@ -249,7 +245,7 @@ accept h (ask q) new = h
 
 -- A refused call changes nothing.
 unfoldable pub recorded : History → Call → NodeId → History
-recorded h c new = pick (same (refusalOf h c) 0) (accept h c new) h
+recorded h c new = cond (same (refusalOf h c) 0) (accept h c new) h
 
 -- The stored focus: the id of the node that has the name, dead or not.
 abbrev pub idNamed : List NodeId → Maybe ℕ → MaybeId

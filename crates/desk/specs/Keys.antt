@@ -1,9 +1,10 @@
 -- Demand 3 in a harbour master's words: the keys that made a node's text.
+use mathlib.Core.Bool.{cond}
 use Prim.Native.Nat.{ℕ}
 use mathlib.Core.List.{List, [], _∷_, _++_}
 use Rattle.field.specs.Text.{Text, text}
 use Rattle.field.specs.declared.NodeId.{NodeId}
-use Rattle.tree.specs.Tests.{pick, same, Maybe, nothing, just}
+use Rattle.arithmetic.specs.Tests.{same, Maybe, nothing, just}
 use Rattle.tree.specs.Forest.{find}
 use Rattle.tree.specs.Nodes.{Info}
 use Rattle.desk.specs.History.{History, Call, Change, refusalOf, recorded, sameName, keyText}
@@ -28,7 +29,7 @@ Log = ℕ → List Key
 
 -- A key goes to the node in focus.
 abbrev pub logKey : Maybe ℕ → Key → Log → Log
-logKey focus key log m = pick (sameName focus (just m)) (log m ++ key ∷ []) (log m)
+logKey focus key log m = cond (sameName focus (just m)) (log m ++ key ∷ []) (log m)
 
 abbrev pub logEvent : Maybe ℕ → UiEvent → Log → Log
 logEvent focus (PointerMoved x y) log = log
@@ -39,7 +40,7 @@ logEvent focus (Edit op) log = logKey focus (Op op) log
 
 -- A node that gets a field begins anew.
 abbrev pub beginAt : Maybe Text → ℕ → Log → Log
-beginAt nothing name log m = pick (same m name) [] (log m)
+beginAt nothing name log m = cond (same m name) [] (log m)
 beginAt (just t) name log m = log m
 
 abbrev pub logField : Maybe Info → Log → Log
@@ -65,7 +66,7 @@ logged h (ask q) log = log
 abbrev pub logs : History → List Call → List NodeId → Log → Log
 logs h [] fed log = log
 logs h (c ∷ cs) [] log = log
-logs h (c ∷ cs) (d ∷ fed) log = logs (recorded h c d) cs fed (pick (same (refusalOf h c) 0) (logged h c log) log)
+logs h (c ∷ cs) (d ∷ fed) log = logs (recorded h c d) cs fed (cond (same (refusalOf h c) 0) (logged h c log) log)
 
 -- No key yet.
 abbrev pub noKeys : Log

@@ -1,5 +1,5 @@
 pub mod Events
-pub mod Parts
+pub mod Support
 pub mod History
 pub mod Demand3
 pub mod Keys

@@ -1,19 +1,20 @@
 // What an event does to the tree, before the bits are refreshed, by the parts that it changes: a whole tree is costly to pass on.
 // So a contract on parts speaks of every tree that has them.
+ghost use mathlib.Core.Bool.{cond};
 ghost use mathlib.Core.Path.{_≡_};
 ghost use Prim.Native.Nat.{_+_, _<_, _≤_};
 ghost use mathlib.Core.List.{[], _∷_, _++_};
 ghost use lib.ListN.{length, take};
 ghost use Rattle.tree.specs.Fields.{fieldOf};
-ghost use Rattle.tree.specs.Trees.{limitOf, over, withInteraction, withWaiting};
+ghost use Rattle.tree.specs.Trees.{limitOf, withInteraction, withWaiting};
+ghost use Rattle.arithmetic.specs.Tests.{over, same};
 ghost use Rattle.tree.specs.declared.Ui.{Ui};
 ghost use Rattle.field.specs.declared.MaybeId.{MaybeId};
-ghost use Rattle.desk.specs.Parts.{partsOf, withParts, hasLive};
+ghost use Rattle.desk.specs.Support.Parts.{partsOf, withParts, hasLive};
 ghost use Rattle.desk.specs.Events as events;
 ghost use Rattle.desk.specs.Events.{pointedAt, pressedOn, foldedBy, idBytes, keyBytes, releasedOn, keyedField, editFocused};
 ghost use Rattle.arithmetic.specs.Fold.{lowBytes, emptyHash, absorbed};
 ghost use Rattle.arithmetic.specs.Scalar.{incremented};
-ghost use Rattle.tree.specs.Tests.{pick, same};
 use crate::Key;
 use crate::Parts;
 use crate::UiEvent;
@@ -75,7 +76,7 @@ fn press(p: Parts, id: MaybeId) -> Parts
 
 // How many outputs are lost, with one more where `lost` is not 0.
 fn lost_count(overflowed: u64, lost: u8) -> u64
-    ensures { λ r. ⌜ r ≡ pick (same lost 0) overflowed (incremented overflowed) ⌝ }
+    ensures { λ r. ⌜ r ≡ cond (same lost 0) overflowed (incremented overflowed) ⌝ }
 {
     if lost == 0 {
         return overflowed;
@@ -181,7 +182,7 @@ fn has_changed(f: Field, g: Field) -> bool
 
 // The interaction after a key on the node's field, which is folded where it changed something.
 fn folded(a: Interaction, d: NodeId, key: Key, changed: bool) -> Interaction
-    ensures { λ r. ⌜ r ≡ pick changed (foldedBy a (absorbed emptyHash (lowBytes 8 (a .«edit_fold») ++ idBytes d ++ keyBytes key) .state)) a ⌝ }
+    ensures { λ r. ⌜ r ≡ cond changed (foldedBy a (absorbed emptyHash (lowBytes 8 (a .«edit_fold») ++ idBytes d ++ keyBytes key) .state)) a ⌝ }
 {
     if changed {
         let mut out = a;

@@ -18,9 +18,9 @@ use text::refusal::Verdict;
 use tree::Interaction;
 use tree::Ui;
 use tree::answers::Changed;
+use tree::answers::FieldPlace;
 use tree::answers::Neighbour;
 use tree::fields;
-use tree::fields::Place;
 use tree::input;
 use tree::rules;
 use tree::wearing;
@@ -126,17 +126,12 @@ pub fn absorb(u: Ui, hash: StateHash) -> Fingerprint
 pub fn metres(u: Ui, d: NodeId) -> Metres
     ensures { λ r. ⌜ answerOf r ≡ calls.metres u d .answer ⌝ }
 {
-    match u.standing(d) {
-        Verdict::Refused(word) => Metres::Refused(word),
-        Verdict::Accepted => {
+    match u.field_place(d) {
+        FieldPlace::Refused(word) => Metres::Refused(word),
+        FieldPlace::At(i) => {
             let own = u.fields;
-            match fields::field_place(own, d) {
-                Place::Nowhere => Metres::Refused(Refusal::Fieldless),
-                Place::At(i) => {
-                    let f = fields::field_at(own, i);
-                    f.metres()
-                }
-            }
+            let f = fields::field_at(own, i);
+            f.metres()
         }
     }
 }

@@ -3,7 +3,8 @@ ghost use mathlib.Core.Path.{_≡_};
 ghost use Prim.Native.Nat.{_-_, _≤_};
 ghost use mathlib.Core.List.{_∷_};
 ghost use lib.ListN.{length, take, drop};
-ghost use Rattle.tree.specs.Trees.{over, waitingOf, withWaiting};
+ghost use Rattle.arithmetic.specs.Tests.{over};
+ghost use Rattle.tree.specs.Trees.{waitingOf, withWaiting};
 use field::NodeId;
 use tree::Ui;
 

@@ -9,11 +9,12 @@ use lib.ListN.{length, take, drop, length-append, length-drop}
 use lib.Seq.{length-take-le, take-take, drop-drop, take-append-seam, drop-append-seam}
 use Rattle.text.specs.Utf8.{isScalar, allScalars, encoded, encodedAll}
 use Rattle.text.specs.Steps.{backOf, stepBack, stepForward}
-use Rattle.text.proofs.Picks.{and-left, and-right}
+use Rattle.arithmetic.proofs.BoolLaws.{and-left, and-right}
 use Rattle.text.proofs.Texts.{scalars-part}
 use Rattle.text.proofs.Shapes.{step-back-is-one-character, step-forward-is-one-character}
 use Rattle.field.specs.Text.{Text, text, bytesOf, caretOf, keyed}
-use Rattle.field.specs.Fields.{held, over, moved, cutOut, putIn, stepBackOf, stepForwardOf, editedIn, withText}
+use Rattle.field.specs.Fields.{held, moved, cutOut, putIn, stepBackOf, stepForwardOf, editedIn, withText}
+use Rattle.arithmetic.specs.Tests.{over}
 use Rattle.field.specs.declared.Field.{Field}
 use Rattle.field.specs.declared.EditOp.{EditOp}
 use Rattle.field.specs.declared.EditOp.the-variants.{Backspace, Delete, Left, Right, Home, End}

@@ -3,7 +3,7 @@ use mathlib.Core.Path.{_≡_, refl}
 use mathlib.Core.List.{map}
 use Rattle.arithmetic.specs.Scalar.{stop, addSat}
 use Rattle.arithmetic.specs.Growth.{sumTo, table, comesBefore, rank, growSum, wholeShare, remainder, missing, shareWithUnit, share, planGrowth}
-use Rattle.text.specs.Choice.{within}
+use Rattle.arithmetic.specs.Tests.{within}
 use Rattle.text.specs.Utf8.{isScalar, encoded}
 use Rattle.text.specs.Reader.{leadOf, stepOf, runFrom, isUtf8, scalarsFrom, scalars}
 use Rattle.text.specs.Steps.{front}

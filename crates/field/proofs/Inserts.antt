@@ -11,7 +11,8 @@ use Rattle.text.specs.Utf8.{isScalar, encoded}
 use Rattle.text.specs.declared.utf8.Encoded.{Encoded}
 use Rattle.text.proofs.Encodes.{Bytes}
 use Rattle.text.proofs.Encodes.Bytes.{nothing, some}
-use Rattle.field.specs.Fields.{inRange, held, over, putIn, inserted}
+use Rattle.field.specs.Fields.{inRange, held, putIn, inserted}
+use Rattle.arithmetic.specs.Tests.{over}
 use Rattle.field.specs.declared.Field.{Field}
 use Rattle.field.proofs.Ranges.{caret-in-range}
 use Rattle.field.proofs.Pastes.{put-in}

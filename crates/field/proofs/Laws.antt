@@ -1,7 +1,7 @@
 -- Of a field that keeps the rules: an edit is the edit of its text, character by character; it keeps the rules; and the field then
 -- holds the edited text. Why: the bytes of the edited text are again some scalar values' bytes, of at most 64 in all. Assumes nothing.
 use mathlib.Core.Path.{_≡_, refl, sym, ap, ap₂, subst, _∙_}
-use mathlib.Core.Bool.{Bool, true, false, _&&_}
+use mathlib.Core.Bool.{Bool, true, false, _&&_, cond}
 use mathlib.Core.List.{List, [], _∷_, _++_, reverse, reverseAux, reverseAux-eq, reverse-reverse, reverseAux-reverseAux-nil}
 use Prim.Native.Nat.{ℕ, _+_, _≤_}
 use native.Mathlib.Omega.{arith}
@@ -9,14 +9,14 @@ use borrow.Author.Tests.{le-leb, leb-true}
 use lib.Dec.{leb}
 use lib.ListN.{length, take, drop, length-append, length-drop, length-take}
 use lib.Seq.{take-append-seam, drop-append-seam, length-take-le, take-append-le}
-use Rattle.text.specs.Choice.{pick}
 use Rattle.text.specs.Utf8.{isScalar, allScalars, encoded, encodedAll}
 use Rattle.text.specs.Reader.{isUtf8, scalars, scalarsFrom, runFrom}
-use Rattle.text.proofs.Picks.{and-left, and-right, and-both}
+use Rattle.arithmetic.proofs.BoolLaws.{and-left, and-right, and-both}
 use Rattle.text.proofs.Complete.{written-well, written-reads}
 use Rattle.text.proofs.Texts.{encodings-join, scalars-join, scalars-part}
 use Rattle.field.specs.Text.{Text, text, bytesOf, caretOf, typed, keyed, before}
-use Rattle.field.specs.Fields.{emptyField, inRange, fieldOk, held, over, putIn, edited, inserted, textOf, withText}
+use Rattle.field.specs.Fields.{emptyField, inRange, fieldOk, held, putIn, edited, inserted, textOf, withText}
+use Rattle.arithmetic.specs.Tests.{over}
 use Rattle.field.specs.declared.Field.{Field}
 use Rattle.field.specs.declared.EditOp.{EditOp}
 use Rattle.field.specs.declared.EditOp.the-variants.{Backspace, Delete, Left, Right, Home, End}
@@ -138,7 +138,7 @@ pub typed-good : (c : ℕ) (t : Text) → Good t → Good (typed c t)
 unfolding typed bytesOf
 typed-good c (text b a) g = go (isScalar c && leb (length (encodedAll (reverseAux b a)) + length (encoded c)) 64) refl
   where
-    go : (k : Bool) → isScalar c && leb (length (encodedAll (reverseAux b a)) + length (encoded c)) 64 ≡ k → Good (pick k (text (c ∷ b) a) (text b a))
+    go : (k : Bool) → isScalar c && leb (length (encodedAll (reverseAux b a)) + length (encoded c)) 64 ≡ k → Good (cond k (text (c ∷ b) a) (text b a))
     go true e = more c b a (and-left _ _ e) (leb-true _ 64 (and-right (isScalar c) _ e)) g
     go false e = g
 
@@ -172,7 +172,7 @@ module _ (f : Field) (h : fieldOk f ≡ true) where
         let p = parts f h in
         rw (p .ranged, length-is-the-texts) (by (isScalar c && leb (f .len + length (encoded c)) 64))
       where
-        by : (t : Bool) → pick t (putIn f (encoded c)) f ≡ withText f (pick t (before c (textOf f)) (textOf f))
+        by : (t : Bool) → cond t (putIn f (encoded c)) f ≡ withText f (cond t (before c (textOf f)) (textOf f))
         by true = let p = parts f h in sym (put-text f long p c) ∙ ap (λ (t : Text). withText f (before c t)) (sym (p .is-text))
         by false = sym field-is-its-text
 

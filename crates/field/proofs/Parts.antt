@@ -2,17 +2,18 @@
 use mathlib.Core.Path.{_≡_, refl, sym, ap, ap₂, subst, _∙_}
 use mathlib.Core.Bool.{true, _&&_}
 use mathlib.Core.List.{List, [], _∷_, _++_, append-nil, reverse, reverseAux-eq, reverse-cons, reverse-reverse}
-use Prim.Native.Nat.{ℕ, _+_, _-_, _≤_}
+use Prim.Native.Nat.{ℕ, _≤_}
 use native.Mathlib.Omega.{arith}
 use lib.ListN.{length, take, drop, take-append-drop}
 use lib.Seq.{length-take-le, take-take}
 use Rattle.text.specs.Utf8.{allScalars, encoded, encodedAll}
 use Rattle.text.specs.Reader.{isUtf8, scalars}
-use Rattle.text.proofs.Picks.{and-left, and-right}
+use Rattle.arithmetic.proofs.BoolLaws.{and-left, and-right}
 use Rattle.text.proofs.Sound.{read-writes, read-scalars}
 use Rattle.text.proofs.Texts.{encodings-join, rest-is-utf8}
 use Rattle.field.specs.Text.{Text, text, bytesOf, caretOf}
-use Rattle.field.specs.Fields.{inRange, fieldOk, held, over, moved, textOf, withText}
+use Rattle.field.specs.Fields.{inRange, fieldOk, held, moved, textOf, withText}
+use Rattle.arithmetic.specs.Tests.{over}
 use Rattle.field.specs.declared.Field.{Field}
 use Rattle.field.proofs.Ranges.{length-in-range, caret-in-range, rules-are-in-range}
 

@@ -1,22 +1,12 @@
 -- Bytes moved by the code's loops, as lists written over the front of the old bytes. Assumes nothing.
-use mathlib.Core.Path.{_≡_, refl, sym, ap, ap₂, _∙_}
-use mathlib.Core.List.{List, [], _∷_, _++_, append-assoc}
-use Prim.Native.Nat.{ℕ, zero, suc, _+_, _-_, _≤_}
+use Rattle.arithmetic.proofs.LoopLaws.{drop-taken}
+use mathlib.Core.Path.{_≡_, sym, ap, ap₂, _∙_}
+use mathlib.Core.List.{List, _++_, append-assoc}
+use Prim.Native.Nat.{ℕ, _+_, _-_, _≤_}
 use native.Mathlib.Omega.{arith}
 use lib.ListN.{length, take, drop, length-append, length-drop}
 use lib.Seq.{length-take-le, take-take, drop-at, paste, take-append-le}
-use Rattle.field.specs.Fields.{over}
-
-drop-taken : (m n : ℕ) (l : List ℕ) → drop m (take n l) ≡ take (n - m) (drop m l)
-drop-taken zero n l = let e : n - 0 ≡ n = omega arith in ap (λ (k : ℕ). take k l) (sym e)
-drop-taken (suc m) zero l = let e : 0 - suc m ≡ 0 = omega arith in ap (λ (k : ℕ). take k (drop (suc m) l)) (sym e)
-drop-taken (suc m) (suc n) [] = taken-none (suc n - suc m)
-  where
-    taken-none : (k : ℕ) → _≡_ {A = List ℕ} [] (take k [])
-    taken-none zero = refl
-    taken-none (suc k) = refl
-drop-taken (suc m) (suc n) (x ∷ l) =
-    let e : n - m ≡ suc n - suc m = omega arith in drop-taken m n l ∙ ap (λ (k : ℕ). take k (drop m l)) e
+use Rattle.arithmetic.specs.Tests.{over}
 
 -- the bytes from `from` to `to` taken out
 pub cut : (d : List ℕ) (from to len : ℕ) → from ≤ to → to ≤ len → len ≤ length d

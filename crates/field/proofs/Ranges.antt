@@ -8,7 +8,7 @@ use lib.Dec.{leb, ltb}
 use lib.ListN.{length, drop, length-drop}
 use lib.Seq.{length-take-le}
 use Rattle.text.specs.Steps.{isTail, front, stepBack, stepForward}
-use Rattle.text.proofs.Picks.{pick-of, and-left, and-right}
+use Rattle.arithmetic.proofs.BoolLaws.{pick-of, and-left, and-right}
 use Rattle.text.proofs.Walks.{back-not-after, front-not-longer}
 use Rattle.field.specs.Fields.{inRange, fieldOk, held, stepBackOf, stepForwardOf}
 use Rattle.field.specs.declared.Field.{Field}

@@ -1,13 +1,12 @@
 -- What stands behind the whole metres, by how long it is. Assumes nothing.
 use mathlib.Core.Path.{_≡_, refl, sym, ap, _∙_}
-use mathlib.Core.Bool.{Bool, _&&_}
+use mathlib.Core.Bool.{Bool, _&&_, cond}
 use mathlib.Core.List.{List, [], _∷_}
 use Prim.Native.Nat.{ℕ, suc, _+_, _-_, _*_, _≤_, _<_}
 use native.Mathlib.Numerals.{add-one, add-two}
 use native.Mathlib.Omega.{arith}
 use lib.ListN.{length, getD, drop, length-drop, drop-of-length-le}
 use lib.Seq.{drop-cons}
-use Rattle.text.specs.Choice.{pick}
 use Rattle.text.specs.Refusal.{accepted}
 use Rattle.field.specs.Metres.{isDigit, isPoint, behind, unread}
 
@@ -23,7 +22,7 @@ module _ (v : ℕ) (s : List ℕ) (at : ℕ) where
   nothing-behind k = let e : length s ≤ at = omega arith in rw (drop-of-length-le s e)
 
   pub two-behind : length s - at ≡ 2 → (t : Bool) → isPoint (getD s at 0) && isDigit (getD s (at + 1) 0) ≡ t
-      → behind v (drop at s) ≡ pick t (accepted (v + (getD s (at + 1) 0 - 48) * 10)) unread
+      → behind v (drop at s) ≡ cond t (accepted (v + (getD s (at + 1) 0 - 48) * 10)) unread
   unfolding behind
   two-behind k t e =
       let e′ : isPoint (getD s at 0) && isDigit (getD s (suc at) 0) ≡ t = rw add-one at e in
@@ -31,7 +30,7 @@ module _ (v : ℕ) (s : List ℕ) (at : ℕ) where
       rw (add-one at, two (omega arith), drop-of-length-le s n, e′)
 
   pub three-behind : length s - at ≡ 3 → (t : Bool) → isPoint (getD s at 0) && (isDigit (getD s (at + 1) 0) && isDigit (getD s (at + 2) 0)) ≡ t
-      → behind v (drop at s) ≡ pick t (accepted (v + (getD s (at + 1) 0 - 48) * 10 + (getD s (at + 2) 0 - 48))) unread
+      → behind v (drop at s) ≡ cond t (accepted (v + (getD s (at + 1) 0 - 48) * 10 + (getD s (at + 2) 0 - 48))) unread
   unfolding behind
   three-behind k t e =
       let e′ : isPoint (getD s at 0) && (isDigit (getD s (suc at) 0) && isDigit (getD s (suc (suc at)) 0)) ≡ t = rw (add-one at, add-two at) at e in

@@ -1,10 +1,10 @@
 -- Document 01, **Metres**: one to three digits, optionally a point and one or two digits, read as whole centimetres.
 use Prim.Native.Nat.{ℕ, zero, suc, _+_, _-_, _*_}
-use mathlib.Core.Bool.{Bool, true, false, _&&_}
+use mathlib.Core.Bool.{Bool, _&&_, cond}
 use mathlib.Core.List.{List, [], _∷_}
 use lib.Dec.{eqb}
 use lib.ListN.{length, getD, drop}
-use Rattle.text.specs.Choice.{pick, within}
+use Rattle.arithmetic.specs.Tests.{within}
 use Rattle.text.specs.Steps.{front}
 use Rattle.text.specs.Refusal.{Answer, accepted, refused}
 use Rattle.text.specs.declared.refusal.Refusal.the-variants.{Broken, Empty, Unread}
@@ -36,16 +36,16 @@ answerOf (Refused word) = refused word 0
 unfoldable pub behind : ℕ → List ℕ → Answer ℕ
 behind v [] = accepted v
 behind v (p ∷ []) = unread
-behind v (p ∷ d ∷ []) = pick (isPoint p && isDigit d) (accepted (v + (d - 48) * 10)) unread
-behind v (p ∷ d ∷ e ∷ []) = pick (isPoint p && (isDigit d && isDigit e)) (accepted (v + (d - 48) * 10 + (e - 48))) unread
+behind v (p ∷ d ∷ []) = cond (isPoint p && isDigit d) (accepted (v + (d - 48) * 10)) unread
+behind v (p ∷ d ∷ e ∷ []) = cond (isPoint p && (isDigit d && isDigit e)) (accepted (v + (d - 48) * 10 + (e - 48))) unread
 behind v (p ∷ d ∷ e ∷ x ∷ s) = unread
 
 -- The centimetres of a text; 9 for an empty one, 10 for one of another form.
 unfoldable pub metresOf : List ℕ → Answer ℕ
 metresOf s =
-    pick (eqb (length s) 0) (refused Empty 0)
-    (pick (within 1 3 (front isDigit s)) (behind (valueOf s (front isDigit s) * 100) (drop (front isDigit s) s)) unread)
+    cond (eqb (length s) 0) (refused Empty 0)
+    (cond (within 1 3 (front isDigit s)) (behind (valueOf s (front isDigit s) * 100) (drop (front isDigit s) s)) unread)
 
 -- The centimetres of a field; 1 for one that breaks the rules.
 unfoldable pub fieldMetres : Field → Answer ℕ
-fieldMetres f = pick (fieldOk f) (metresOf (held f)) (refused Broken 0)
+fieldMetres f = cond (fieldOk f) (metresOf (held f)) (refused Broken 0)

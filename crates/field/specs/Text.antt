@@ -1,10 +1,9 @@
 -- Document 01, **Field**: a text with a caret, and what a key makes of it, by characters. Characters are Unicode scalar values.
 use Prim.Native.Nat.{ℕ, _+_}
-use mathlib.Core.Bool.{Bool, true, false, _&&_}
+use mathlib.Core.Bool.{_&&_, cond}
 use mathlib.Core.List.{List, [], _∷_, reverse, reverseAux}
 use lib.Dec.{leb}
 use lib.ListN.{length}
-use Rattle.text.specs.Choice.{pick}
 use Rattle.text.specs.Utf8.{isScalar, encoded, encodedAll}
 use Rattle.field.specs.declared.EditOp.{EditOp}
 use Rattle.field.specs.declared.EditOp.the-variants.{Backspace, Delete, Left, Right, Home, End}
@@ -25,7 +24,7 @@ before c (text b a) = text (c ∷ b) a
 
 -- A character goes in at the caret; a number that is no character, and one whose bytes would pass 64 in all, does not.
 unfoldable pub typed : ℕ → Text → Text
-typed c t = pick (isScalar c && leb (length (bytesOf t) + length (encoded c)) 64) (before c t) t
+typed c t = cond (isScalar c && leb (length (bytesOf t) + length (encoded c)) 64) (before c t) t
 
 -- One character at a time.
 unfoldable pub keyed : EditOp → Text → Text

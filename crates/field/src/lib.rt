@@ -5,7 +5,7 @@ pub mod metres;
 ghost use mathlib.Core.Path.{_≡_};
 ghost use mathlib.Core.Bool.{true};
 ghost use Prim.Native.Nat.{_≤_};
-ghost use Rattle.field.specs.Fields.{emptyField, inRange, fieldOk, cutOut, moved, inserted, edited, shownOf, editAnswer, insertAnswer, answerOf, stepBackOf, stepForwardOf};
+ghost use Rattle.field.specs.Fields.{emptyField, ownField, inRange, fieldOk, cutOut, moved, inserted, edited, shownOf, editAnswer, insertAnswer, answerOf, stepBackOf, stepForwardOf};
 ghost use Rattle.field.specs.Metres.{fieldMetres};
 ghost use Rattle.field.specs.Metres as reading;
 ghost use Rattle.text.specs.Refusal.{verdictOf};
@@ -56,6 +56,18 @@ impl Field {
     {
         Field {
             owner: MaybeId::Absent,
+            bytes: [0u8; 64],
+            len: 0,
+            cursor: 0,
+        }
+    }
+
+    // A node's new field, with no text.
+    pub fn owned(d: NodeId) -> Field
+        ensures { λ r. ⌜ r ≡ ownField d ⌝ }
+    {
+        Field {
+            owner: MaybeId::Present(d),
             bytes: [0u8; 64],
             len: 0,
             cursor: 0,

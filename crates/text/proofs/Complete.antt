@@ -10,7 +10,7 @@ use lib.ListN.{length}
 use Rattle.text.specs.Utf8.{isScalar, allScalars, encoded, encodedAll}
 use Rattle.text.specs.Reader.{place, start, leadOf, stepOf, runFrom, isUtf8, emit, scalarsFrom, scalars}
 use Rattle.text.specs.declared.utf8.Place.{Place}
-use Rattle.text.proofs.Picks.{within-yes, and-left, and-right}
+use Rattle.arithmetic.proofs.BoolLaws.{within-yes, and-left, and-right}
 use Rattle.text.proofs.Leads.{Lead, lead-case}
 use Rattle.text.proofs.Leads.Lead.{one, two, three-e0, three-e1, three-ed, three-ee, four-f0, four-f1, four-f4, none}
 use Rattle.text.proofs.Scalars.{scalar-top, scalar-gap, encoded-one, encoded-two, encoded-three, encoded-four}

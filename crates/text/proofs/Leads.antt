@@ -4,10 +4,10 @@ use mathlib.Core.Bool.{false}
 use Prim.Native.Nat.{ℕ, _%_, _≤_, _<_}
 use native.Mathlib.Omega.{arith}
 use borrow.Author.Tests.{leb-true, leb-false, eqb-true, eqb-false}
-use Rattle.text.specs.Choice.{within}
+use Rattle.arithmetic.specs.Tests.{within}
 use Rattle.text.specs.Reader.{place, lost, leadOf}
 use Rattle.text.specs.declared.utf8.Place.{Place}
-use Rattle.text.proofs.Picks.{pick-of, within-low, within-high, within-no}
+use Rattle.arithmetic.proofs.BoolLaws.{pick-of, within-low, within-high, within-no}
 
 pub data Lead (b : ℕ) : Place → Type 0 where
   one : b ≤ 0x7F → Lead b (place 0 0 0 b)

@@ -1,5 +1,4 @@
 -- modules that belong to no one function
-pub mod Picks
 pub mod Walks
 pub mod Scalars
 pub mod Leads

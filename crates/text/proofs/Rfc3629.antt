@@ -11,7 +11,7 @@ use Rattle.text.specs.Utf8.{isScalar, allScalars, encoded, encodedAll, O
 use Rattle.text.specs.Utf8.Octets.{none, utf8-1, utf8-2, utf8-3-e0, utf8-3-e1, utf8-3-ed, utf8-3-ee, utf8-4-f0, utf8-4-f1, utf8-4-f4}
 use Rattle.text.specs.Reader.{isUtf8, scalars}
 use Rattle.text.specs.Rfc3629.{Written, AsRfc3629}
-use Rattle.text.proofs.Picks.{and-left, and-right, and-both}
+use Rattle.arithmetic.proofs.BoolLaws.{and-left, and-right, and-both}
 use Rattle.text.proofs.Scalars.{scalar-top, scalar-gap, scalar-low, scalar-high, encoded-one, encoded-two, encoded-three, encoded-four}
 use Rattle.text.proofs.Sound.{read-writes, read-scalars, two-good, three-bytes, four-good}
 use Rattle.text.proofs.Complete.{written-well, written-reads}

@@ -9,11 +9,11 @@ use borrow.Author.Tests.{eqb-false}
 use lib.Dec.{eqb}
 use lib.ListN.{length, getD, drop, drop-of-length-le}
 use lib.Seq.{drop-cons}
-use Rattle.text.specs.Choice.{within}
+use Rattle.arithmetic.specs.Tests.{within}
 use Rattle.text.specs.Reader.{place, lost, leadOf, stepOf, runFrom, scalarsFrom, emit}
 use Rattle.text.specs.Advance.{advanceOf, stopSum, countedOf}
 use Rattle.text.specs.declared.utf8.Place.{Place}
-use Rattle.text.proofs.Picks.{pick-of}
+use Rattle.arithmetic.proofs.BoolLaws.{pick-of}
 use Rattle.text.proofs.Leads.{Lead, lead-case}
 use Rattle.text.proofs.Leads.Lead.{one, two, three-e0, three-e1, three-ed, three-ee, four-f0, four-f1, four-f4, none}
 

@@ -1,15 +1,15 @@
 -- A character's bytes by its size. Assumes nothing.
 use mathlib.Core.Path.{_≡_}
 use mathlib.Core.Bool.{true}
-use mathlib.Core.Logic.{_⊎_, ⊎-elim}
+use mathlib.Core.Logic.{⊎-elim}
 use mathlib.Core.List.{[], _∷_}
 use Prim.Native.Nat.{ℕ, _+_, _/_, _%_, _≤_, _<_}
 use native.Mathlib.Omega.{arith}
 use borrow.Author.Tests.{leb-true, le-leb, lt-leb}
 use lib.Dec.{leb}
-use Rattle.text.specs.Choice.{within}
+use Rattle.arithmetic.specs.Tests.{within}
 use Rattle.text.specs.Utf8.{isScalar, encoded}
-use Rattle.text.proofs.Picks.{within-low, within-high, within-yes, or-cases}
+use Rattle.arithmetic.proofs.BoolLaws.{within-low, within-high, within-yes, or-cases}
 
 pub scalar-top : (c : ℕ) → isScalar c ≡ true → c ≤ 0x10FFFF
 unfolding isScalar

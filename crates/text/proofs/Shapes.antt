@@ -9,9 +9,9 @@ use borrow.Author.Tests.{leb-true, leb-false, lt-leb, le-leb, lt-ltb}
 use lib.Dec.{leb}
 use lib.ListN.{length, getD, drop, length-drop, length-append, List·getD-append}
 use lib.Seq.{drop-drop, getD-append-add, getD-append-seam}
-use Rattle.text.specs.Choice.{within}
+use Rattle.arithmetic.specs.Tests.{within}
 use Rattle.text.specs.Utf8.{isScalar, allScalars, encoded, encodedAll}
-use Rattle.text.proofs.Picks.{within-yes, and-left}
+use Rattle.arithmetic.proofs.BoolLaws.{within-yes, and-left}
 use Rattle.text.proofs.Scalars.{encoded-one, encoded-two, encoded-three, encoded-four}
 use Rattle.text.specs.Steps.{isTail, backOf, front, stepBack, stepForward}
 use Rattle.text.proofs.Walks.{back-ends-at-no-tail}

@@ -7,11 +7,11 @@ use Prim.Native.Nat.{ℕ, zero, suc, _+_, _-_, _*_, _/_, _%_, _≤_, _<_}
 use native.Mathlib.Omega.{arith}
 use borrow.Author.Tests.{eq-eqb, ne-eqb, eqb-true, eqb-false}
 use lib.Dec.{eqb}
-use Rattle.text.specs.Choice.{within}
+use Rattle.arithmetic.specs.Tests.{within}
 use Rattle.text.specs.Utf8.{isScalar, allScalars, encoded, encodedAll}
 use Rattle.text.specs.Reader.{place, start, lost, leadOf, stepOf, runFrom, isUtf8, emit, scalarsFrom, scalars}
 use Rattle.text.specs.declared.utf8.Place.{Place}
-use Rattle.text.proofs.Picks.{pick-of, within-low, within-high, and-both}
+use Rattle.arithmetic.proofs.BoolLaws.{pick-of, within-low, within-high, and-both}
 use Rattle.text.proofs.Leads.{Lead, lead-case}
 use Rattle.text.proofs.Leads.Lead.{one, two, three-e0, three-e1, three-ed, three-ee, four-f0, four-f1, four-f4, none}
 use Rattle.text.proofs.Scalars.{scalar-low, scalar-high, encoded-one, encoded-two, encoded-three, encoded-four}

@@ -7,7 +7,7 @@ use borrow.Author.Tests.{eqb-true, eq-eqb}
 use Rattle.text.specs.Utf8.{isScalar, allScalars, encoded, encodedAll}
 use Rattle.text.specs.Reader.{start, runFrom, isUtf8}
 use Rattle.text.specs.declared.utf8.Place.{Place}
-use Rattle.text.proofs.Picks.{and-left, and-right, and-both}
+use Rattle.arithmetic.proofs.BoolLaws.{and-left, and-right, and-both}
 use Rattle.text.proofs.Complete.{fresh-run}
 
 pub encodings-join : (x y : List ℕ) → encodedAll (x ++ y) ≡ encodedAll x ++ encodedAll y

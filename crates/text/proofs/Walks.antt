@@ -1,6 +1,6 @@
 -- Walks over a list of bytes, a place at a time: back to a byte that is no tail, and forward while a test holds. Assumes nothing.
 use mathlib.Core.Path.{_≡_, refl, ap, _∙_}
-use mathlib.Core.Bool.{Bool, true, false}
+use mathlib.Core.Bool.{Bool, true, false, cond}
 use mathlib.Core.List.{List, [], _∷_}
 use Prim.Native.Nat.{ℕ, zero, suc, _+_, _-_, _≤_, _<_}
 use native.Mathlib.Numerals.{add-one}
@@ -8,7 +8,7 @@ use native.Mathlib.Omega.{arith}
 use borrow.Author.Tests.{lt-leb}
 use lib.ListN.{length, getD, drop, drop-of-length-le, List·getD-eq-default}
 use lib.Seq.{drop-cons}
-use Rattle.text.specs.Choice.{pick, within}
+use Rattle.arithmetic.specs.Tests.{within}
 use Rattle.text.specs.Steps.{isTail, backOf, front}
 
 -- the walk back ends here: at a byte that is no tail, and past the bytes
@@ -34,7 +34,7 @@ unfolding backOf
 back-not-after s zero = omega arith
 back-not-after s (suc i) = go (isTail (getD s (suc i) 0)) (back-not-after s i)
   where
-    go : (t : Bool) → backOf s i ≤ i → pick t (backOf s i) (suc i) ≤ suc i
+    go : (t : Bool) → backOf s i ≤ i → cond t (backOf s i) (suc i) ≤ suc i
     go true h = omega arith
     go false h = omega arith
 
@@ -57,6 +57,6 @@ unfolding front
 front-not-longer t [] = omega arith
 front-not-longer t (b ∷ s) = go (t b) (front-not-longer t s)
   where
-    go : (k : Bool) → front t s ≤ length s → pick k (suc (front t s)) 0 ≤ suc (length s)
+    go : (k : Bool) → front t s ≤ length s → cond k (suc (front t s)) 0 ≤ suc (length s)
     go true h = omega arith
     go false h = omega arith

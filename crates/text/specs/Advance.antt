@@ -1,12 +1,12 @@
 -- Document 01, **Text**: the width of a text is the sum of its characters' advances.
-use Prim.Native.Nat.{ℕ, _+_, _-_, _*_, _^_, min}
-use mathlib.Core.Bool.{Bool, true, false}
+use Prim.Native.Nat.{ℕ, _+_, _-_, _^_, min}
+use mathlib.Core.Bool.{cond}
 use mathlib.Core.List.{List, [], _∷_, map}
 use lib.Dec.{eqb}
 use lib.IntN.{ℤ, pos}
 use lib.ListN.{getD}
 use Rattle.arithmetic.specs.Scalar.{fromInt}
-use Rattle.text.specs.Choice.{pick, within}
+use Rattle.arithmetic.specs.Tests.{within}
 use Rattle.text.specs.Reader.{isUtf8, scalars}
 use Rattle.text.specs.Refusal.{Answer, accepted, refused}
 use Rattle.text.specs.declared.Measured.{Measured}
@@ -24,7 +24,7 @@ advances =
 
 -- The advance of one character: any other than 32 to 126 counts as '?', which is 63.
 unfoldable pub advanceOf : ℕ → ℕ
-advanceOf c = getD advances (pick (within 32 126 c) c 63 - 32) 0
+advanceOf c = getD advances (cond (within 32 126 c) c 63 - 32) 0
 
 -- A sum that stops at the top of an i32.
 unfoldable pub stopSum : ℕ → List ℕ → ℕ
@@ -33,7 +33,7 @@ stopSum t (a ∷ rest) = stopSum (min (t + a) (2 ^ 31 - 1)) rest
 
 -- The sum after a byte: one advance more where a character has ended.
 unfoldable pub countedOf : ℕ → Place → ℕ
-countedOf t p = pick (eqb (p .left) 0) (min (t + advanceOf (p .code)) (2 ^ 31 - 1)) t
+countedOf t p = cond (eqb (p .left) 0) (min (t + advanceOf (p .code)) (2 ^ 31 - 1)) t
 
 -- The number and the raw units of each case.
 abbrev pub answerOf : Measured → Answer ℤ
@@ -42,4 +42,4 @@ answerOf (Refused word) = refused word (pos 0)
 
 -- The width of a text in raw units; bytes that are not UTF-8 have none.
 unfoldable pub measureOf : List ℕ → Answer ℤ
-measureOf s = pick (isUtf8 s) (accepted (fromInt (pos (stopSum 0 (map advanceOf (scalars s)))))) (refused IllFormed (pos 0))
+measureOf s = cond (isUtf8 s) (accepted (fromInt (pos (stopSum 0 (map advanceOf (scalars s)))))) (refused IllFormed (pos 0))

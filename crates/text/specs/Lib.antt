@@ -1,4 +1,3 @@
-pub mod Choice
 pub mod Refusal
 pub mod Utf8
 pub mod Reader

@@ -1,10 +1,10 @@
 -- A reader of UTF-8 that takes a byte at a time: whether bytes are well-formed, and the characters that they are. `Rfc3629` says
 -- that this is what the RFC's grammar and its section 3 say.
 use Prim.Native.Nat.{ℕ, _+_, _-_, _*_, _%_}
-use mathlib.Core.Bool.{Bool, true, false}
+use mathlib.Core.Bool.{Bool, true, false, cond}
 use mathlib.Core.List.{List, [], _∷_}
 use lib.Dec.{leb, eqb}
-use Rattle.text.specs.Choice.{pick, within}
+use Rattle.arithmetic.specs.Tests.{within}
 use Rattle.text.specs.declared.utf8.Place.{Place}
 
 -- Where a reader stands: `left` bytes are still to come of a character, the next of them from `low` to `high`, the others from
@@ -22,22 +22,22 @@ lost = place 1 255 0 0
 -- Section 4: what a first byte asks for, by the lines of the grammar.
 unfoldable pub leadOf : ℕ → Place
 leadOf b =
-    pick (leb b 0x7F) (place 0 0 0 b)
-    (pick (within 0xC2 0xDF b) (place 1 0x80 0xBF (b % 32))
-    (pick (eqb b 0xE0) (place 2 0xA0 0xBF (b % 16))
-    (pick (within 0xE1 0xEC b) (place 2 0x80 0xBF (b % 16))
-    (pick (eqb b 0xED) (place 2 0x80 0x9F (b % 16))
-    (pick (within 0xEE 0xEF b) (place 2 0x80 0xBF (b % 16))
-    (pick (eqb b 0xF0) (place 3 0x90 0xBF (b % 8))
-    (pick (within 0xF1 0xF3 b) (place 3 0x80 0xBF (b % 8))
-    (pick (eqb b 0xF4) (place 3 0x80 0x8F (b % 8))
+    cond (leb b 0x7F) (place 0 0 0 b)
+    (cond (within 0xC2 0xDF b) (place 1 0x80 0xBF (b % 32))
+    (cond (eqb b 0xE0) (place 2 0xA0 0xBF (b % 16))
+    (cond (within 0xE1 0xEC b) (place 2 0x80 0xBF (b % 16))
+    (cond (eqb b 0xED) (place 2 0x80 0x9F (b % 16))
+    (cond (within 0xEE 0xEF b) (place 2 0x80 0xBF (b % 16))
+    (cond (eqb b 0xF0) (place 3 0x90 0xBF (b % 8))
+    (cond (within 0xF1 0xF3 b) (place 3 0x80 0xBF (b % 8))
+    (cond (eqb b 0xF4) (place 3 0x80 0x8F (b % 8))
     lost))))))))
 
 -- A byte more.
 unfoldable pub stepOf : Place → ℕ → Place
 stepOf p b =
-    pick (eqb (p .left) 0) (leadOf b)
-    (pick (within (p .low) (p .high) b) (place (p .left - 1) 0x80 0xBF (p .code * 64 + b % 64))
+    cond (eqb (p .left) 0) (leadOf b)
+    (cond (within (p .low) (p .high) b) (place (p .left - 1) 0x80 0xBF (p .code * 64 + b % 64))
     lost)
 
 -- Where a reader stands after some bytes.

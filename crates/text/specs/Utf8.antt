@@ -2,11 +2,11 @@
 -- well-formed (the grammar of section 4). `Rfc3629` says how these and the reader of `Reader` hang together.
 use Prim.Native.Nat.{ℕ, _+_, _/_, _%_, _≤_}
 use mathlib.Core.Path.{_≡_}
-use mathlib.Core.Bool.{Bool, true, false, _&&_, _||_}
+use mathlib.Core.Bool.{Bool, true, _&&_, _||_, cond}
 use mathlib.Core.List.{List, [], _∷_, _++_}
 use lib.Dec.{leb}
 use lib.ListN.{length, take}
-use Rattle.text.specs.Choice.{pick, within}
+use Rattle.arithmetic.specs.Tests.{within}
 use Rattle.text.specs.declared.utf8.Encoded.{Encoded}
 
 -- A Unicode scalar value: a number to 0x10FFFF that is no surrogate.
@@ -20,9 +20,9 @@ allScalars (c ∷ cs) = isScalar c && allScalars cs
 -- Section 3: the bytes of one character. Each byte but the first carries six bits.
 unfoldable pub encoded : ℕ → List ℕ
 encoded c =
-    pick (leb c 0x7F) (c ∷ [])
-    (pick (leb c 0x7FF) ((0xC0 + c / 64) ∷ (0x80 + c % 64) ∷ [])
-    (pick (leb c 0xFFFF) ((0xE0 + c / 4096) ∷ (0x80 + c / 64 % 64) ∷ (0x80 + c % 64) ∷ [])
+    cond (leb c 0x7F) (c ∷ [])
+    (cond (leb c 0x7FF) ((0xC0 + c / 64) ∷ (0x80 + c % 64) ∷ [])
+    (cond (leb c 0xFFFF) ((0xE0 + c / 4096) ∷ (0x80 + c / 64 % 64) ∷ (0x80 + c % 64) ∷ [])
     ((0xF0 + c / 262144) ∷ (0x80 + c / 4096 % 64) ∷ (0x80 + c / 64 % 64) ∷ (0x80 + c % 64) ∷ [])))
 
 -- The bytes of a text.
@@ -56,4 +56,4 @@ padded s = record { bytes = take 4 (s ++ 0 ∷ 0 ∷ 0 ∷ 0 ∷ []); len = leng
 
 -- The bytes of a character, and none of a number that is no character.
 unfoldable pub encodedAs : ℕ → Encoded
-encodedAs c = pick (isScalar c) (padded (encoded c)) (padded [])
+encodedAs c = cond (isScalar c) (padded (encoded c)) (padded [])

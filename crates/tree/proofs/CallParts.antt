@@ -3,18 +3,18 @@ use Prim.Native.Nat.{ℕ, _<_}
 use mathlib.Core.Path.{_≡_}
 use mathlib.Core.Bool.{true, false, _&&_, not}
 use Rattle.field.specs.declared.NodeId.{NodeId}
-use Rattle.tree.specs.Forest.{Forest, hasId, size}
-use Rattle.tree.specs.Nodes.{Info}
-use Rattle.tree.specs.Slots.{NIL, idAt}
-use Rattle.tree.specs.Layout.{passed}
+use Rattle.arena.specs.Forest.{Forest, hasId, size}
+use Rattle.arena.specs.Nodes.{Info}
+use Rattle.arena.specs.Slots.{NIL, idAt}
+use Rattle.arena.specs.Layout.{passed}
 use Rattle.tree.specs.Trees.{limitOf, withPass}
-use Rattle.tree.specs.Rules.{broken}
+use Rattle.tree.specs.Broken.{broken}
 use Rattle.tree.specs.Calls.{gives, guarded, onLive, sameView, insertAt, insert, solve}
 use Rattle.tree.specs.declared.Ui.{Ui}
-use Rattle.tree.specs.declared.Viewport.{Viewport}
-use Rattle.tree.proofs.TestLaws.{same-no}
-use Rattle.tree.proofs.Ids.{live-just-where-a-node-has-it}
-use Rattle.tree.proofs.Parts.{Links}
+use Rattle.arena.specs.declared.Viewport.{Viewport}
+use Rattle.arithmetic.proofs.TestLaws.{same-no}
+use Rattle.arena.proofs.Forests.Ids.{live-just-where-a-node-has-it}
+use Rattle.tree.proofs.Relation.{Links}
 use Rattle.tree.proofs.InsertParts.{a-slot-is-free-below-the-limit}
 
 module _ {k : ℕ} {u : Ui} {t : Forest Info} (L : Links k u t) (b : broken u ≡ false) where

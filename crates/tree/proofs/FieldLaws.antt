@@ -2,33 +2,33 @@
 -- field is vacant after the clearing or some live node's: so none is vacant just where as many live nodes have a field as there are
 -- fields. Assumes nothing.
 use mathlib.Core.Path.{_≡_, refl, sym, ap, _∙_, subst}
-use mathlib.Core.Bool.{Bool, true, false, not, _&&_}
+use mathlib.Core.Bool.{Bool, true, false, not, _&&_, cond}
 use mathlib.Core.List.{List, [], _∷_}
 use Prim.Native.Nat.{ℕ, suc, _+_, _≤_, _<_}
 use native.Mathlib.Omega.{arith}
 use lib.ListN.{length}
-use Rattle.text.proofs.Picks.{and-left, and-right}
+use Rattle.arithmetic.proofs.BoolLaws.{and-left, and-right}
 use Rattle.field.specs.Text.{Text, text}
-use Rattle.field.specs.Fields.{emptyField, fieldOk, inRange, textOf}
+use Rattle.field.specs.Fields.{emptyField, fieldOk, inRange, textOf, ownField}
 use Rattle.field.proofs.Laws.{empty-field-keeps-the-rules, empty-field-has-no-text}
 use Rattle.field.specs.declared.NodeId.{NodeId}
 use Rattle.field.specs.declared.MaybeId.{MaybeId}
 use Rattle.field.specs.declared.MaybeId.the-variants.{Absent, Present}
 use Rattle.field.specs.declared.Field.{Field}
-use Rattle.tree.specs.Tests.{pick, same, all, Maybe, nothing, just}
-use Rattle.tree.specs.Slots.{Slots, at, isLive, idAt}
-use Rattle.tree.specs.States.{isId, sameId}
-use Rattle.tree.specs.Fields.{firstField, owns, fieldOf, ownerDead, reclaimed, vacant, ownField, changeFirst, claimed}
-use Rattle.tree.specs.Rules.{ownersWell}
-use Rattle.tree.specs.Forest.{Forest, nil, node, hasBoth, hasId}
-use Rattle.tree.specs.Nodes.{Info, bit, hasField, withField, changeOf}
-use Rattle.tree.proofs.Parts.{AllFields, textIn}
-use Rattle.tree.proofs.TestLaws.{same-yes, same-no, same-refl, δ-same, eq-cases, zero-cases, bool-cases}
-use Rattle.tree.proofs.ForestLaws.{cnt, wt}
-use Rattle.tree.proofs.Relations.{Rel, once}
-use Rattle.tree.proofs.Payloads.{AllF, all-map, all-both, all-mapF}
-use Rattle.tree.proofs.Ids.{no-id-without-its-index, live-just-where-a-node-has-it, slots-id-is-live, nodes-have-their-slots-generation}
-use Rattle.tree.proofs.RuleLaws.{both-true}
+use Rattle.arithmetic.specs.Tests.{same, all, Maybe, nothing, just}
+use Rattle.arena.specs.Slots.{Slots, at, isLive, idAt}
+use Rattle.arena.specs.States.{isId, sameId}
+use Rattle.arena.specs.Fields.{firstField, owns, fieldOf, ownerDead, reclaimed, vacant, changeFirst, claimed}
+use Rattle.arena.specs.Rules.{ownersWell}
+use Rattle.arena.specs.Forest.{Forest, nil, node, hasBoth, hasId}
+use Rattle.arena.specs.Nodes.{Info, bit, hasField, withField, changeOf}
+use Rattle.tree.proofs.Relation.{AllFields, textIn}
+use Rattle.arithmetic.proofs.TestLaws.{same-yes, same-no, same-refl, δ-same, eq-cases, zero-cases, bool-cases}
+use Rattle.arena.proofs.Forests.ForestLaws.{cnt, wt}
+use Rattle.arena.proofs.Forests.Relations.{Rel, once}
+use Rattle.arena.proofs.Forests.Payloads.{AllF, all-map, all-both, all-mapF}
+use Rattle.arena.proofs.Forests.Ids.{no-id-without-its-index, live-just-where-a-node-has-it, slots-id-is-live, nodes-have-their-slots-generation}
+use Rattle.arena.proofs.Checks.RuleLaws.{both-true}
 
 -- ---- ids
 
@@ -167,7 +167,7 @@ clearing-leaves-a-live-nodes-field n s (f ∷ fs) d h =
     (λ q.
     let z : owns d f ≡ false = dead-owns n s (f .owner) d q h in
     rw (q, empty-owns d, z) (I .0, ap (λ (m : ℕ). 0 + m) (I .1)))
-    (λ q. rw q (ap (λ (m : Maybe Field). pick (owns d f) (just f) m) (I .0), ap (λ (m : ℕ). bit (owns d f) + m) (I .1)))
+    (λ q. rw q (ap (λ (m : Maybe Field). cond (owns d f) (just f) m) (I .0), ap (λ (m : ℕ). bit (owns d f) + m) (I .1)))
 
 pub clearing-gives-nobody-a-field : (n : ℕ) (s : Slots) (fs : List Field) (d : NodeId) → owned d (reclaimed n s fs) ≤ owned d fs
 unfolding reclaimed
@@ -217,7 +217,7 @@ a-claim-leaves-other-nodes-fields d e (f ∷ fs) h =
     let I = a-claim-leaves-other-nodes-fields d e fs h in
     bool-cases (vacant f)
     (λ q. let z : owns e f ≡ false = vacant-owns f e q in rw (q, h, z) (refl, refl))
-    (λ q. rw q (ap (λ (m : Maybe Field). pick (owns e f) (just f) m) (I .0), ap (λ (m : ℕ). bit (owns e f) + m) (I .1)))
+    (λ q. rw q (ap (λ (m : Maybe Field). cond (owns e f) (just f) m) (I .0), ap (λ (m : ℕ). bit (owns e f) + m) (I .1)))
 
 pub a-claim-keeps-the-number-of-fields : (d : NodeId) (fs : List Field) → length (claimed d fs) ≡ length fs
 unfolding claimed
@@ -368,7 +368,7 @@ module _ {X : Type 0} where
 
   module _ {n : ℕ} {s : Slots} {free : ℕ} {t : Forest X} {fl : List ℕ} (r : Rel n s free t fl) where
     one-or-the-other : (o : MaybeId) (bytes : List ℕ) (len cursor : ℕ)
-        → bit (vacant (pick (ownerDead n s o) emptyField (record { owner = o; bytes = bytes; len = len; cursor = cursor }))) + wt (hers o) t ≡ 1
+        → bit (vacant (cond (ownerDead n s o) emptyField (record { owner = o; bytes = bytes; len = len; cursor = cursor }))) + wt (hers o) t ≡ 1
     one-or-the-other Absent bytes len cursor = let z = sum-of-none t in omega arith
     one-or-the-other (Present d) bytes len cursor =
         let o = once r (d .index) in
@@ -445,7 +445,7 @@ module _ {n : ℕ} {s : Slots} {free : ℕ} {t : Forest Info} {fl : List ℕ} (r
       → AllF (Texted fs) t → AllF (Texted (claimed d (reclaimed n s fs))) (changeOf d (λ x. withField x (just (text [] []))) t)
   a-field-made-is-an-empty-text fs d live none f some tx =
       let R : List Field = reclaimed n s fs in
-      let u : ℕ → ℕ → Info → Info = λ i g x. pick (hasBoth d i g) (withField x (just (text [] []))) x in
+      let u : ℕ → ℕ → Info → Info = λ i g x. cond (hasBoth d i g) (withField x (just (text [] []))) x in
       let L : ℕ → ℕ → Info → Type 0 = λ i g x. isLive n s (record { index = i; generation = g }) ≡ true in
       let ld : isLive n s d ≡ true = live-just-where-a-node-has-it r d ∙ live in
       let z : owned d R ≡ 0 = clearing-leaves-a-live-nodes-field n s fs d ld .1 ∙ who-has-no-field-owns-nothing d fs none in
@@ -455,10 +455,10 @@ module _ {n : ℕ} {s : Slots} {free : ℕ} {t : Forest Info} {fl : List ℕ} (r
       let e : NodeId = record { index = i; generation = g } in
       let h = to-have-an-id-is-to-be-named-by-it d i g in
       bool-cases (sameId d e)
-      (λ b. subst (λ (c : Bool). Texted (claimed d R) i g (pick c (withField x (just (text [] []))) x)) (sym (h ∙ b))
+      (λ b. subst (λ (c : Bool). Texted (claimed d R) i g (cond c (withField x (just (text [] []))) x)) (sym (h ∙ b))
       (subst (λ (y : NodeId). just (text [] []) ≡ textIn (fieldOf y (claimed d R))) (one-id-is-the-other d e b)
       (sym (ap textIn own ∙ ap (λ (y : Text). just y) (a-nodes-new-field-has-no-text d)))))
-      (λ b. subst (λ (c : Bool). Texted (claimed d R) i g (pick c (withField x (just (text [] []))) x)) (sym (h ∙ b))
+      (λ b. subst (λ (c : Bool). Texted (claimed d R) i g (cond c (withField x (just (text [] []))) x)) (sym (h ∙ b))
       (q .0 ∙ ap textIn (sym (a-claim-leaves-other-nodes-fields d e R b .0 ∙ clearing-leaves-a-live-nodes-field n s fs e (q .1) .0)))))
       (all-both (Texted fs) L t tx nodes-ids-are-live))
 
@@ -486,7 +486,7 @@ module _ (c : Field → Field) (keeps : (f : Field) → c f .owner ≡ f .owner)
   an-edit-leaves-other-nodes-fields e (f ∷ fs) h =
       bool-cases (owns d f)
       (λ b. let z = not-hers (f .owner) e b h in rw (b, owns-edited e f, z))
-      (λ b. rw b (ap (λ (m : Maybe Field). pick (owns e f) (just f) m) (an-edit-leaves-other-nodes-fields e fs h)))
+      (λ b. rw b (ap (λ (m : Maybe Field). cond (owns e f) (just f) m) (an-edit-leaves-other-nodes-fields e fs h)))
     where
       not-hers : (o : MaybeId) (e : NodeId) → isId o d ≡ true → sameId d e ≡ false → isId o e ≡ false
       not-hers Absent e b h = refl

@@ -1,6 +1,6 @@
 -- Fields made and edited, as texts of nodes: only texts change, so looks and names are kept. Assumes nothing.
 use mathlib.Core.Path.{_≡_, refl, sym, ap, subst, _∙_}
-use mathlib.Core.Bool.{Bool, true, false}
+use mathlib.Core.Bool.{Bool, true, false, cond}
 use mathlib.Core.List.{List, [], _∷_}
 use Prim.Native.Nat.{ℕ, _<_}
 use native.Mathlib.Omega.{arith}
@@ -10,22 +10,22 @@ use Rattle.field.specs.Fields.{emptyField, fieldOk, textOf}
 use Rattle.field.specs.declared.NodeId.{NodeId}
 use Rattle.field.specs.declared.Field.{Field}
 use Rattle.field.proofs.Laws.{empty-field-keeps-the-rules}
-use Rattle.tree.specs.Tests.{pick, occ, Maybe, nothing, just}
-use Rattle.tree.specs.Slots.{Slots, isLive}
-use Rattle.tree.specs.Styles.{layoutAt}
-use Rattle.tree.specs.States.{entryOf, sameId}
-use Rattle.tree.specs.Forest.{Forest, nil, node, hasBoth, hasId, mapF}
-use Rattle.tree.specs.Nodes.{Info, withField, changeOf}
-use Rattle.tree.specs.Fields.{owns, fieldOf, firstField, vacant, reclaimed, claimed, changeFirst}
+use Rattle.arithmetic.specs.Tests.{occ, Maybe, nothing, just}
+use Rattle.arena.specs.Slots.{Slots, isLive}
+use Rattle.arena.specs.Styles.{layoutAt}
+use Rattle.arena.specs.States.{entryOf, sameId}
+use Rattle.arena.specs.Forest.{Forest, nil, node, hasBoth, hasId, mapF}
+use Rattle.arena.specs.Nodes.{Info, withField, changeOf}
+use Rattle.arena.specs.Fields.{owns, fieldOf, firstField, vacant, reclaimed, claimed, changeFirst}
 use Rattle.tree.specs.Trees.{limitOf, statedOf}
 use Rattle.tree.specs.Calls.{nobody}
 use Rattle.tree.specs.declared.Ui.{Ui}
-use Rattle.tree.proofs.TestLaws.{bool-cases}
-use Rattle.tree.proofs.Payloads.{AllF, all-map, all-both, all-mapF, shape, shape-map, cnt-shape}
-use Rattle.tree.proofs.Ids.{live-id, live-just-where-a-node-has-it}
-use Rattle.tree.proofs.Rounds.{Worn}
-use Rattle.tree.proofs.Parts.{Below, BelowMaybe, Links, Naming, Dress, Ruled, AllFields, textIn, Texts}
-use Rattle.tree.proofs.ShapeParts.{links-of-shape, naming-by-shape, ruled-by-shape}
+use Rattle.arithmetic.proofs.TestLaws.{bool-cases}
+use Rattle.arena.proofs.Forests.Payloads.{AllF, all-map, all-both, all-mapF, shape, shape-map, cnt-shape}
+use Rattle.arena.proofs.Forests.Ids.{live-id, live-just-where-a-node-has-it}
+use Rattle.arena.proofs.Forests.Rounds.{Worn}
+use Rattle.tree.proofs.Relation.{Below, BelowMaybe, Links, Naming, Styled, Ruled, AllFields, textIn, Texts}
+use Rattle.tree.proofs.ShapeParts.{naming-by-shape, ruled-by-shape}
 use Rattle.tree.proofs.FieldLaws.{one-id-is-the-other, to-have-an-id-is-to-be-named-by-it, an-edit-keeps-of-each, an-edit-keeps-the-number-of-fields, an-edit-is-of-the-nodes-field, an-edit-leaves-other-nodes-fields, an-edit-keeps-owners-apart, editIn, clearing-keeps-of-each, clearing-keeps-the-number-of-fields, clearing-keeps-owners-apart, clearing-leaves-a-live-nodes-field, a-claim-keeps-of-each, a-claim-keeps-the-number-of-fields, a-claim-keeps-owners-apart, a-nodes-new-field-is-ok, who-has-no-field-owns-nothing, a-field-made-is-an-empty-text}
 
 -- equal changes at every node
@@ -39,15 +39,15 @@ equal-at-each-node v w (node i g x cs sib) h =
 -- some nodes get another text
 module _ (b : ℕ → ℕ → Info → Bool) (y : Info → Maybe Text) where
   abbrev pub retexted : ℕ → ℕ → Info → Info
-  retexted i g x = pick (b i g x) (withField x (y x)) x
+  retexted i g x = cond (b i g x) (withField x (y x)) x
 
   pub what-texts-leave-alone : (P : ℕ → ℕ → Info → Type 0) → ((i g : ℕ) (x : Info) (z : Maybe Text) → P i g x → P i g (withField x z)) → (t : Forest Info) → AllF P t → AllF P (mapF retexted t)
   what-texts-leave-alone P h t a =
       all-mapF P retexted t (all-map P (λ i g x. P i g (retexted i g x)) t
       (λ i g x _ p. bool-cases (b i g x) (λ e. rw e (h i g x (y x) p)) (λ e. rw e p)) a)
 
-  pub texts-keep-dress : (u : Ui) (t : Forest Info) → Dress u t → Dress u (mapF retexted t)
-  texts-keep-dress u t d = record {
+  pub texts-keep-styling : (u : Ui) (t : Forest Info) → Styled u t → Styled u (mapF retexted t)
+  texts-keep-styling u t d = record {
     sized = d .sized;
     worn = what-texts-leave-alone (λ i g x. Worn (u .layout) (u .states) i x) (λ i g x z p. p) t (d .worn);
     tables = what-texts-leave-alone (λ i g x. x .applied ≡ entryOf (x .table) (x .bits)) (λ i g x z p. p) t (d .tables);
@@ -59,9 +59,6 @@ module _ (b : ℕ → ℕ → Info → Bool) (y : Info → Maybe Text) where
     stated-once = d .stated-once;
     well = d .well;
   }
-
-  pub texts-keep-links : (k : ℕ) (u : Ui) (t : Forest Info) → Links k u t → Links k u (mapF retexted t)
-  texts-keep-links k u t l = links-of-shape t (mapF retexted t) (sym (shape-map retexted t)) k u u refl refl refl refl l
 
   pub texts-keep-naming : (s : Slots) (t : Forest Info) (named : List NodeId) → Naming s t named → Naming s (mapF retexted t) named
   texts-keep-naming s t named n =
@@ -126,7 +123,7 @@ module _ (s : Slots) (t : Forest Info) (fs : List Field) (x₀ : Texts s fs t) (
           M-some (textOf f) ∙ ap (λ (z : Text). just z) (sym (rules f (r .0) (r .1) .2))
 
       one : (i g : ℕ) (x : Info) → x .text ≡ textIn (fieldOf (record { index = i; generation = g }) fs) → sameId d (record { index = i; generation = g }) ≡ b i g x
-          → pick (b i g x) (withField x (M (x .text))) x .text ≡ textIn (fieldOf (record { index = i; generation = g }) fs′)
+          → cond (b i g x) (withField x (M (x .text))) x .text ≡ textIn (fieldOf (record { index = i; generation = g }) fs′)
       one i g x tx e =
           bool-cases (b i g x)
           (λ k.
@@ -188,8 +185,8 @@ module _ (k : ℕ) (u : Ui) (t : Forest Info) (l : Links k u t) (x₀ : Texts (u
 
   pub a-field-stays : (f : Field) → fieldOf d (u .fields) ≡ just f → kept ≡ t
   a-field-stays f e =
-      unchanged-at-each-node (λ i g x. pick (hasBoth d i g) (withField x (K (x .text))) x) t
-      (all-map (λ i g x. hasBoth d i g ≡ true → x .text ≡ textIn (fieldOf d (u .fields))) (λ i g x. pick (hasBoth d i g) (withField x (K (x .text))) x ≡ x) t
+      unchanged-at-each-node (λ i g x. cond (hasBoth d i g) (withField x (K (x .text))) x) t
+      (all-map (λ i g x. hasBoth d i g ≡ true → x .text ≡ textIn (fieldOf d (u .fields))) (λ i g x. cond (hasBoth d i g) (withField x (K (x .text))) x ≡ x) t
       (λ i g x _ q. bool-cases (hasBoth d i g)
       (λ b.
       let y : x .text ≡ just (textOf f) = q b ∙ ap textIn e in
@@ -205,16 +202,16 @@ module _ (k : ℕ) (u : Ui) (t : Forest Info) (l : Links k u t) (x₀ : Texts (u
   a-field-is-made f none some =
       let R : List Field = reclaimed (limitOf u) (u .slots) (u .fields) in
       let e : kept ≡ changeOf d (λ x. withField x (just (text [] []))) t =
-      equal-at-each-node (λ i g x. pick (hasBoth d i g) (withField x (K (x .text))) x) (λ i g x. pick (hasBoth d i g) (withField x (just (text [] []))) x) t
+      equal-at-each-node (λ i g x. cond (hasBoth d i g) (withField x (K (x .text))) x) (λ i g x. cond (hasBoth d i g) (withField x (just (text [] []))) x) t
       (all-map (λ i g x. hasBoth d i g ≡ true → x .text ≡ textIn (fieldOf d (u .fields)))
-      (λ i g x. pick (hasBoth d i g) (withField x (K (x .text))) x ≡ pick (hasBoth d i g) (withField x (just (text [] []))) x) t
+      (λ i g x. cond (hasBoth d i g) (withField x (K (x .text))) x ≡ cond (hasBoth d i g) (withField x (just (text [] []))) x) t
       (λ i g x _ q. bool-cases (hasBoth d i g)
       (λ b. rw b (ap (withField x) (ap K (q b ∙ ap textIn none) ∙ K-none)))
       (λ b. rw b)) text-of-the-node) in
       let live-d = live-id (l .rel) d live in
       let below-d : Below (u .slots) t d = let a = live-d .0 in let g = live-d .1 in omega arith in
       let is-live : isLive (limitOf u) (u .slots) d ≡ true = live-just-where-a-node-has-it (l .rel) d ∙ live in
-      let shp = sym (shape-map (λ i g x. pick (hasBoth d i g) (withField x (K (x .text))) x) t) in
+      let shp = sym (shape-map (λ i g x. cond (hasBoth d i g) (withField x (K (x .text))) x) t) in
       record {
         eight = a-claim-keeps-the-number-of-fields d R ∙ clearing-keeps-the-number-of-fields (limitOf u) (u .slots) (u .fields) ∙ x₀ .eight;
         ruled = ruled-by-shape t kept shp (u .slots) made

@@ -9,15 +9,15 @@ use Rattle.field.specs.declared.NodeId.{NodeId}
 use Rattle.field.specs.declared.MaybeId.{MaybeId}
 use Rattle.field.specs.declared.MaybeId.the-variants.{Absent, Present}
 use Rattle.field.specs.declared.Field.{Field}
-use Rattle.tree.specs.Tests.{nothing}
-use Rattle.tree.specs.Forest.{Forest}
-use Rattle.tree.specs.Nodes.{Info}
-use Rattle.tree.specs.Slots.{Slots, at, idAt}
-use Rattle.tree.specs.States.{isId}
-use Rattle.tree.specs.Fields.{fieldOf}
-use Rattle.tree.proofs.TestLaws.{eq-cases, same-no}
-use Rattle.tree.proofs.ForestLaws.{cnt}
-use Rattle.tree.proofs.Parts.{Below, BelowMaybe, Ruled, AllFields}
+use Rattle.arithmetic.specs.Tests.{nothing}
+use Rattle.arena.specs.Forest.{Forest}
+use Rattle.arena.specs.Nodes.{Info}
+use Rattle.arena.specs.Slots.{Slots, at, idAt}
+use Rattle.arena.specs.States.{isId}
+use Rattle.arena.specs.Fields.{fieldOf}
+use Rattle.arithmetic.proofs.TestLaws.{eq-cases, same-no}
+use Rattle.arena.proofs.Forests.ForestLaws.{cnt}
+use Rattle.tree.proofs.Relation.{Below, BelowMaybe, Ruled, AllFields}
 
 -- no epoch falls
 abbrev pub NoEpochFalls : Slots → Forest Info → Slots → Forest Info → Type 0

@@ -11,28 +11,28 @@ use lib.ListN.{length, getD, set, length-set, length-append, List·getD-append}
 use lib.Seq.{getD-at}
 use Rattle.field.specs.declared.NodeId.{NodeId}
 use Rattle.field.specs.declared.MaybeId.{MaybeId}
-use Rattle.tree.specs.Tests.{δ, occ}
-use Rattle.tree.specs.Forest.{Forest, nil, node, app, hasId, kidsOf, setKidsOf, size}
-use Rattle.tree.specs.Nodes.{Info, newInfo}
-use Rattle.tree.specs.Slots.{NIL, Slots, at, idAt}
-use Rattle.tree.specs.Styles.{freshLayout, freshState, freshStyle, layoutAt}
-use Rattle.tree.specs.Fields.{fieldOf}
+use Rattle.arithmetic.specs.Tests.{δ, occ}
+use Rattle.arena.specs.Forest.{Forest, nil, node, app, hasId, kidsOf, setKidsOf, size}
+use Rattle.arena.specs.Nodes.{Info, newInfo}
+use Rattle.arena.specs.Slots.{NIL, Slots, at, idAt}
+use Rattle.arena.specs.Styles.{freshLayout, freshState, freshStyle, layoutAt}
+use Rattle.arena.specs.Fields.{fieldOf}
 use Rattle.tree.specs.Trees.{limitOf, statedOf, withNodes}
 use Rattle.tree.specs.Calls.{nobody, insertAt}
 use Rattle.tree.specs.declared.Ui.{Ui}
-use Rattle.tree.specs.declared.LayoutSlot.{LayoutSlot}
-use Rattle.tree.specs.declared.StateSlot.{StateSlot}
-use Rattle.tree.proofs.TestLaws.{δ-refl, δ-same, eq-cases}
-use Rattle.tree.proofs.ForestLaws.{cnt, kids, setKids}
-use Rattle.tree.proofs.Relations.{Rel, once, below}
-use Rattle.tree.proofs.Payloads.{AllF, all-map, all-app, all-kids, all-set}
-use Rattle.tree.proofs.LinkInserts.{insert-rel, insert-size, insert-keeps-generations}
-use Rattle.tree.proofs.Generations.{insert-epochs}
-use Rattle.tree.proofs.Ids.{live-id, kids-of-a-live-id, set-kids-of-a-live-id, free-cases, full-when-none-is-free}
-use Rattle.tree.proofs.Rounds.{Worn}
-use Rattle.tree.proofs.WearLaws.{a-stored-state-is-there, other-states-stay, a-stored-layout-is-there, other-layouts-stay, a-fresh-table-has-no-patch}
+use Rattle.arena.specs.declared.LayoutSlot.{LayoutSlot}
+use Rattle.arena.specs.declared.StateSlot.{StateSlot}
+use Rattle.arithmetic.proofs.TestLaws.{δ-refl, δ-same, eq-cases}
+use Rattle.arena.proofs.Forests.ForestLaws.{cnt, kids, setKids}
+use Rattle.arena.proofs.Forests.Relations.{Rel, once, below}
+use Rattle.arena.proofs.Forests.Payloads.{AllF, all-map, all-app, all-kids, all-set}
+use Rattle.arena.proofs.Forests.LinkInserts.{insert-rel, insert-size, insert-keeps-generations}
+use Rattle.arena.proofs.Forests.Generations.{insert-epochs}
+use Rattle.arena.proofs.Forests.Ids.{live-id, kids-of-a-live-id, set-kids-of-a-live-id, free-cases, full-when-none-is-free}
+use Rattle.arena.proofs.Forests.Rounds.{Worn}
+use Rattle.arena.proofs.Styles.WearLaws.{a-stored-state-is-there, other-states-stay, a-stored-layout-is-there, other-layouts-stay, a-fresh-table-has-no-patch}
 use Rattle.tree.proofs.WellLaws.{a-bare-slot-is-well}
-use Rattle.tree.proofs.Parts.{Below, BelowMaybe, Links, Naming, Dress, Pool, Texts, Queue, textIn}
+use Rattle.tree.proofs.Relation.{Below, BelowMaybe, Links, Naming, Styled, Texts, textIn}
 use Rattle.tree.proofs.GivenIds.{NoEpochFalls, given-ids-stay-given, given-owners-stay-given, ruled-fields-stay-ruled, a-given-id-is-not-a-free-slots, a-free-slots-id-has-no-field}
 
 -- the forest with a new last child of the node that has the id, in the first free slot and of name m
@@ -97,9 +97,9 @@ module _ {k : ℕ} {u : Ui} {t : Forest Info} (L : Links k u t) (d : NodeId) (h 
         young = λ j. let y = L .young j in let e = insert-keeps-generations (u .slots) (d .index) (u .free) j in omega arith;
       }
 
-  pub insert-keeps-dress : Dress u t → Dress (insertAt u (d .index)) (withChild u d m t)
+  pub insert-keeps-styling : Styled u t → Styled (insertAt u (d .index)) (withChild u d m t)
   unfolding insertAt withNodes
-  insert-keeps-dress D =
+  insert-keeps-styling D =
       let i : ℕ = u .free in
       let l : List LayoutSlot = u .layout in
       let s : List StateSlot = u .states in
@@ -143,14 +143,6 @@ module _ {k : ℕ} {u : Ui} {t : Forest Info} (L : Links k u t) (d : NodeId) (h 
     texts = with-a-child-all (λ i g x. x .text ≡ textIn (fieldOf (record { index = i; generation = g }) (u .fields))) (X .texts)
         (ap textIn (sym (a-free-slots-id-has-no-field (u .slots) t (u .free) no-node-has-the-slot-taken (u .fields) (X .ruled))));
   }
-
-  pub insert-keeps-the-pool : Pool u → Pool (insertAt u (d .index))
-  unfolding insertAt withNodes
-  insert-keeps-the-pool P = record { long = P .long; few = P .few }
-
-  pub insert-keeps-the-queue : Queue u → Queue (insertAt u (d .index))
-  unfolding insertAt withNodes
-  insert-keeps-the-queue Q = record { long = Q .long; few = Q .few }
 
 -- ---- names
 

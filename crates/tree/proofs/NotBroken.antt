@@ -7,24 +7,24 @@ use native.Mathlib.Omega.{arith}
 use borrow.Author.Tests.{le-leb}
 use Rattle.field.specs.Fields.{fieldOk}
 use Rattle.field.specs.declared.Field.{Field}
-use Rattle.tree.specs.Tests.{all}
-use Rattle.tree.specs.Forest.{Forest}
-use Rattle.tree.specs.Nodes.{Info}
-use Rattle.tree.specs.Slots.{Slots}
-use Rattle.tree.specs.Rules.{broken}
+use Rattle.arithmetic.specs.Tests.{all}
+use Rattle.arena.specs.Forest.{Forest}
+use Rattle.arena.specs.Nodes.{Info}
+use Rattle.arena.specs.Slots.{Slots}
+use Rattle.tree.specs.Broken.{broken, linksWell}
 use Rattle.tree.specs.Trees.{limitOf}
 use Rattle.tree.specs.declared.Ui.{Ui}
-use Rattle.tree.proofs.RuleLaws.{both-true, links-well}
+use Rattle.arena.proofs.Checks.RuleLaws.{both-true, links-are-well}
 use Rattle.tree.proofs.WellLaws.{states-well-together}
-use Rattle.tree.proofs.Ids.{limit-is-positive}
-use Rattle.tree.proofs.Parts.{Ruled, AllFields, Links, Dress, Pool, Texts, Queue}
+use Rattle.arena.proofs.Forests.Ids.{limit-is-positive}
+use Rattle.tree.proofs.Relation.{Ruled, AllFields, Links, Styled, Pool, Texts, Queue}
 
 pub ruled-fields-keep-the-rules : (s : Slots) (t : Forest Info) (fs : List Field) → AllFields (Ruled s t) fs → all fieldOk fs ≡ true
 ruled-fields-keep-the-rules s t [] q = refl
 ruled-fields-keep-the-rules s t (f ∷ fs) q = both-true (fieldOk f) (all fieldOk fs) (q .0 .0) (ruled-fields-keep-the-rules s t fs (q .1))
 
-pub not-broken : {k : ℕ} {u : Ui} {t : Forest Info} → Links k u t → Dress u t → Pool u → Texts (u .slots) (u .fields) t → Queue u → broken u ≡ false
-unfolding broken
+pub not-broken : {k : ℕ} {u : Ui} {t : Forest Info} → Links k u t → Styled u t → Pool u → Texts (u .slots) (u .fields) t → Queue u → broken u ≡ false
+unfolding broken linksWell
 not-broken {k} {u} {t} L D P X Q =
     let sm = L .rel .small in
     let ls = D .sized .1 in
@@ -32,7 +32,7 @@ not-broken {k} {u} {t} L D P X Q =
       le-leb 1 (limitOf u) (limit-is-positive (L .rel)),
       le-leb (limitOf u) 128 sm,
       le-leb (u .«patch_count») 64 (P .few),
-      links-well u t (L .chain) (L .rel) (L .count),
+      links-are-well (limitOf u) (u .slots) (u .free) (u .live) t (L .chain) (L .rel) (L .count),
       states-well-together (u .«patch_count») (limitOf u) (u .states) (omega arith) (D .well),
       le-leb (u .«stated_count») 3 (D .stated-few),
       D .stated-once,

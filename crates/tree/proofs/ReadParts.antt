@@ -2,9 +2,9 @@
 -- are those known of it, since its slot holds the box and its field holds the text. The links from child to child go through the children
 -- in order. Assumes nothing.
 use mathlib.Core.Path.{_≡_, refl, sym, ap, _∙_, subst}
-use mathlib.Core.Bool.{Bool, true, false}
+use mathlib.Core.Bool.{Bool, true, false, cond}
 use mathlib.Core.List.{List, [], _∷_, _++_}
-use Prim.Native.Nat.{ℕ, zero, suc, _+_, _-_, _≤_, _<_}
+use Prim.Native.Nat.{ℕ, zero, suc, _-_, _≤_, _<_}
 use native.Mathlib.Omega.{arith}
 use lib.ListN.{length, replicate}
 use Rattle.text.specs.Refusal.{Answer, accepted, refused}
@@ -17,24 +17,24 @@ use Rattle.field.specs.declared.MaybeId.{MaybeId}
 use Rattle.field.specs.declared.MaybeId.the-variants.{Absent, Present}
 use Rattle.field.specs.declared.Field.{Field}
 use Rattle.field.proofs.Laws.{held-is-the-texts, length-is-the-texts, caret-is-the-texts}
-use Rattle.tree.specs.Tests.{pick, Maybe, nothing, just}
-use Rattle.tree.specs.Forest.{Forest, nil, node, hasBoth, hasId, kidsOf, find, ids, size}
-use Rattle.tree.specs.Nodes.{Info}
-use Rattle.tree.specs.Slots.{NIL, Slots, at}
-use Rattle.tree.specs.Styles.{noRect, layoutAt}
-use Rattle.tree.specs.Fields.{firstField, owns, fieldOf}
-use Rattle.tree.specs.Rules.{broken}
+use Rattle.arithmetic.specs.Tests.{Maybe, nothing, just}
+use Rattle.arena.specs.Forest.{Forest, nil, node, hasBoth, hasId, kidsOf, find, ids, size}
+use Rattle.arena.specs.Nodes.{Info}
+use Rattle.arena.specs.Slots.{NIL, Slots, at}
+use Rattle.arena.specs.Styles.{noRect, layoutAt}
+use Rattle.arena.specs.Fields.{firstField, owns, fieldOf}
+use Rattle.tree.specs.Broken.{broken}
 use Rattle.tree.specs.Calls.{Outcome, Shown, noText, shown, gives, guarded, onLive, ofField, onField, fieldText, fieldCursor, rect, live, firstChild, nextSibling}
 use Rattle.tree.specs.declared.Ui.{Ui}
-use Rattle.tree.specs.declared.Slot.{Slot}
-use Rattle.tree.proofs.TestLaws.{δ-refl, bool-cases}
-use Rattle.tree.proofs.ForestLaws.{cnt, kids, cnt-kids-le, wt-rest, size-is-a-sum}
-use Rattle.tree.proofs.Segments.{SegR}
-use Rattle.tree.proofs.Orders.{rel-size}
-use Rattle.tree.proofs.Ids.{live-just-where-a-node-has-it, live-id, kids-of-a-live-id, slots-id-is-live, find-nothing, find-known}
-use Rattle.tree.proofs.ChildLinks.{firstId, first-link, no-node-is-none, children-segment, first-child-of-a-live-id}
-use Rattle.tree.proofs.PassLaws.{Boxed}
-use Rattle.tree.proofs.Parts.{Ruled, AllFields, textIn, Links, Texts}
+use Rattle.arena.specs.declared.Slot.{Slot}
+use Rattle.arithmetic.proofs.TestLaws.{δ-refl, bool-cases}
+use Rattle.arena.proofs.Forests.ForestLaws.{cnt, kids, cnt-kids-le, wt-rest, size-is-a-sum}
+use Rattle.arena.proofs.Forests.Segments.{SegR}
+use Rattle.arena.proofs.Forests.Orders.{rel-size}
+use Rattle.arena.proofs.Forests.Ids.{live-just-where-a-node-has-it, live-id, kids-of-a-live-id, slots-id-is-live, find-nothing, find-known}
+use Rattle.arena.proofs.Forests.ChildLinks.{firstId, first-link, no-node-is-none, children-segment, first-child-of-a-live-id}
+use Rattle.arena.proofs.Layouts.PassLaws.{Boxed}
+use Rattle.tree.proofs.Relation.{Ruled, AllFields, textIn, Links, Texts}
 
 -- what is said of an id: of a live node what is known of it, and of its text
 abbrev pub ofText : {A : Type 0} → A → (Text → Answer A) → Maybe Text → Answer A
@@ -93,7 +93,7 @@ module _ {k : ℕ} {u : Ui} {t : Forest Info} (L : Links k u t) (b : broken u �
   live-answers-whether-a-node-has-it d = rw (b, live-just-where-a-node-has-it (L .rel) d)
 
   -- a call on a node: of no node it is refused, else it is what it does of the node
-  pub a-call-on-a-node-answers : {A : Type 0} (none : A) (o : Outcome A) (d : NodeId) → onLive u d none o .answer ≡ pick (hasId d t) (o .answer) (refused Missing none)
+  pub a-call-on-a-node-answers : {A : Type 0} (none : A) (o : Outcome A) (d : NodeId) → onLive u d none o .answer ≡ cond (hasId d t) (o .answer) (refused Missing none)
   unfolding onLive guarded
   a-call-on-a-node-answers none o d =
       rw (b, live-just-where-a-node-has-it (L .rel) d) (bool-cases (hasId d t) (λ e. rw e) (λ e. rw e))

@@ -2,7 +2,7 @@
 -- every other node had no bits and has none. The nodes with bits are among the three, and so stated afterwards. Assumes nothing.
 use mathlib.Core.Path.{_≡_, refl, sym, ap, _∙_, subst}
 use mathlib.Core.Logic.{_≢_}
-use mathlib.Core.Bool.{Bool, true, false, not, _||_, _&&_}
+use mathlib.Core.Bool.{Bool, true, false, not, _||_, _&&_, cond}
 use mathlib.Core.List.{List, [], _∷_, _++_}
 use Prim.Native.Nat.{ℕ, zero, suc, _+_, _≤_, _<_}
 use native.Mathlib.Omega.{arith}
@@ -13,23 +13,24 @@ use lib.Seq.{take-append-seam}
 use Rattle.field.specs.declared.NodeId.{NodeId}
 use Rattle.field.specs.declared.MaybeId.{MaybeId}
 use Rattle.field.specs.declared.MaybeId.the-variants.{Absent, Present}
-use Rattle.tree.specs.Tests.{pick, same, δ, occ}
-use Rattle.tree.specs.Slots.{at, isLive, idAt}
-use Rattle.tree.specs.Styles.{freshState, stateAt}
-use Rattle.tree.specs.Trees.{limitOf, poolOf, statedOf, withLooks, withStated}
-use Rattle.tree.specs.States.{looksOf, isId, bitsOf, bitsAt, slotIn, bearing, backwards, refreshed}
-use Rattle.tree.specs.Rules.{distinct}
-use Rattle.tree.specs.Forest.{Forest, mapF, anyF}
-use Rattle.tree.specs.Nodes.{Info, wears, swaps}
+use Rattle.arithmetic.specs.Tests.{same, δ, occ}
+use Rattle.arena.specs.Slots.{at, isLive, idAt}
+use Rattle.arena.specs.Styles.{freshState, stateAt}
+use Rattle.tree.specs.Trees.{limitOf, poolOf, statedOf, withStyles, withStated}
+use Rattle.tree.specs.Wearing.{appearanceOf, bitsAt, refreshed}
+use Rattle.arena.specs.States.{isId, bitsOf, liveSlot, bearing, backwards}
+use Rattle.arena.specs.Rules.{distinct}
+use Rattle.arena.specs.Forest.{Forest, mapF, anyF}
+use Rattle.arena.specs.Nodes.{Info, wears, swaps}
 use Rattle.tree.specs.declared.Ui.{Ui}
-use Rattle.tree.proofs.TestLaws.{same-yes, same-no, δ-refl, δ-same, eq-cases, zero-cases, bool-cases}
-use Rattle.tree.proofs.ForestLaws.{cnt}
-use Rattle.tree.proofs.Relations.{Rel}
-use Rattle.tree.proofs.Payloads.{AllF, all-map, all-mapF}
-use Rattle.tree.proofs.FreeOrders.{occ-append}
-use Rattle.tree.proofs.Ids.{live-just-where-a-node-has-it, slots-id-is-live}
-use Rattle.tree.proofs.Rounds.{Worn, Sized}
-use Rattle.tree.proofs.WearLaws.{Redressed, TablesWorn, all-slots-wearing-is-every-node-wearing}
+use Rattle.arithmetic.proofs.TestLaws.{same-yes, same-no, δ-refl, δ-same, eq-cases, zero-cases, bool-cases}
+use Rattle.arena.proofs.Forests.ForestLaws.{cnt}
+use Rattle.arena.proofs.Forests.Relations.{Rel}
+use Rattle.arena.proofs.Forests.Payloads.{AllF, all-map, all-mapF}
+use Rattle.arena.proofs.Forests.FreeOrders.{occ-append}
+use Rattle.arena.proofs.Forests.Ids.{live-just-where-a-node-has-it, slots-id-is-live}
+use Rattle.arena.proofs.Forests.Rounds.{Worn, Sized}
+use Rattle.arena.proofs.Styles.WearLaws.{Restyled, TablesWorn, all-slots-wearing-is-every-node-wearing}
 
 -- ---- lists of slots without repetition
 
@@ -63,7 +64,7 @@ occ-backwards j (i ∷ is) = let h = occ-append j (backwards is) (i ∷ []) in l
 -- ---- those with bits
 
 module _ (u : Ui) (hover : MaybeId) where
-  pub what-is-kept-stays : (kept is : List ℕ) (j : ℕ) → occ j kept ≤ occ j (bearing u hover kept is)
+  pub what-is-kept-stays : (kept is : List ℕ) (j : ℕ) → occ j kept ≤ occ j (bearing (bitsAt u hover) kept is)
   unfolding bearing
   what-is-kept-stays kept [] j = omega arith
   what-is-kept-stays kept (i ∷ is) j =
@@ -72,7 +73,7 @@ module _ (u : Ui) (hover : MaybeId) where
       (λ b. rw b (what-is-kept-stays kept is j))
       (λ b. rw b (let I = what-is-kept-stays (kept ++ i ∷ []) is j in omega arith))
 
-  pub slots-with-bits-are-borne : (kept is : List ℕ) (j : ℕ) → 0 < occ j is → 0 < bitsAt u hover j → 0 < occ j (bearing u hover kept is)
+  pub slots-with-bits-are-borne : (kept is : List ℕ) (j : ℕ) → 0 < occ j is → 0 < bitsAt u hover j → 0 < occ j (bearing (bitsAt u hover) kept is)
   unfolding bearing
   slots-with-bits-are-borne kept [] j z h = absurd (omega arith)
   slots-with-bits-are-borne kept (i ∷ is) j z h =
@@ -91,7 +92,7 @@ module _ (u : Ui) (hover : MaybeId) where
       go zero e h = absurd (e refl)
       go (suc n) e h = omega arith
 
-  pub what-is-borne-was-listed : (kept is : List ℕ) (j : ℕ) → 0 < occ j (bearing u hover kept is) → 0 < occ j kept + occ j is
+  pub what-is-borne-was-listed : (kept is : List ℕ) (j : ℕ) → 0 < occ j (bearing (bitsAt u hover) kept is) → 0 < occ j kept + occ j is
   unfolding bearing
   what-is-borne-was-listed kept [] j h = omega arith
   what-is-borne-was-listed kept (i ∷ is) j h =
@@ -99,7 +100,7 @@ module _ (u : Ui) (hover : MaybeId) where
       (λ b. let h′ = rw b at h in let q = what-is-borne-was-listed kept is j h′ in omega arith)
       (λ b. let h′ = rw b at h in let q = what-is-borne-was-listed (kept ++ i ∷ []) is j h′ in let e = occ-append j kept (i ∷ []) in omega arith)
 
-  pub what-is-borne-is-borne-once : (kept is : List ℕ) → ((j : ℕ) → occ j kept ≤ 1) → (j : ℕ) → occ j (bearing u hover kept is) ≤ 1
+  pub what-is-borne-is-borne-once : (kept is : List ℕ) → ((j : ℕ) → occ j kept ≤ 1) → (j : ℕ) → occ j (bearing (bitsAt u hover) kept is) ≤ 1
   unfolding bearing
   what-is-borne-is-borne-once kept [] k j = k j
   what-is-borne-is-borne-once kept (i ∷ is) k j =
@@ -112,7 +113,7 @@ module _ (u : Ui) (hover : MaybeId) where
       (λ q _ d. omega arith)) j))
       (λ c s _. rw (b, s) (what-is-borne-is-borne-once kept is k j)))
 
-  pub no-more-are-borne-than-listed : (kept is : List ℕ) → length (bearing u hover kept is) ≤ length kept + length is
+  pub no-more-are-borne-than-listed : (kept is : List ℕ) → length (bearing (bitsAt u hover) kept is) ≤ length kept + length is
   unfolding bearing
   no-more-are-borne-than-listed kept [] = omega arith
   no-more-are-borne-than-listed kept (i ∷ is) =
@@ -125,15 +126,15 @@ module _ (u : Ui) (hover : MaybeId) where
 
   -- the slots of the nodes hovered, pressed and in focus
   abbrev pub three : List ℕ
-  three = slotIn u hover ++ slotIn u (u .interaction .pressed) ++ slotIn u (u .interaction .focus)
+  three = liveSlot (limitOf u) (u .slots) hover ++ liveSlot (limitOf u) (u .slots) (u .interaction .pressed) ++ liveSlot (limitOf u) (u .slots) (u .interaction .focus)
 
-one-slot-at-most : (u : Ui) (o : MaybeId) → length (slotIn u o) ≤ 1
-unfolding slotIn
+one-slot-at-most : (u : Ui) (o : MaybeId) → length (liveSlot (limitOf u) (u .slots) o) ≤ 1
+unfolding liveSlot
 one-slot-at-most u Absent = omega arith
 one-slot-at-most u (Present d) = bool-cases (isLive (limitOf u) (u .slots) d) (λ b. rw b (omega arith)) (λ b. rw b (omega arith))
 
-slot-in-below : (u : Ui) (o : MaybeId) (j : ℕ) → 0 < occ j (slotIn u o) → j < limitOf u
-unfolding slotIn isLive
+slot-in-below : (u : Ui) (o : MaybeId) (j : ℕ) → 0 < occ j (liveSlot (limitOf u) (u .slots) o) → j < limitOf u
+unfolding liveSlot isLive
 slot-in-below u Absent j z = absurd (omega arith)
 slot-in-below u (Present d) j z =
     bool-cases (ltb (d .index) (limitOf u))
@@ -144,8 +145,8 @@ slot-in-below u (Present d) j z =
     (λ b. let z′ : 0 < 0 = rw b at z in absurd (omega arith))
 
 -- a live slot that is not listed has another id
-not-listed-not-named : (u : Ui) (o : MaybeId) (i : ℕ) → isLive (limitOf u) (u .slots) (idAt (u .slots) i) ≡ true → occ i (slotIn u o) ≡ 0 → isId o (idAt (u .slots) i) ≡ false
-unfolding slotIn
+not-listed-not-named : (u : Ui) (o : MaybeId) (i : ℕ) → isLive (limitOf u) (u .slots) (idAt (u .slots) i) ≡ true → occ i (liveSlot (limitOf u) (u .slots) o) ≡ 0 → isId o (idAt (u .slots) i) ≡ false
+unfolding liveSlot
 not-listed-not-named u Absent i l z = refl
 not-listed-not-named u (Present d) i l z =
     let g : ℕ = at (u .slots) i .generation in
@@ -154,15 +155,15 @@ not-listed-not-named u (Present d) i l z =
     (λ q′ s′ _.
     let w : idAt (u .slots) i ≡ d = (λ k. record { index = sym q k; generation = sym q′ k }) in
     let l′ : isLive (limitOf u) (u .slots) d ≡ true = subst (λ (e : NodeId). isLive (limitOf u) (u .slots) e ≡ true) w l in
-    let z′ : δ (d .index) i + 0 ≡ 0 = subst (λ (b : Bool). occ i (pick b (d .index ∷ []) []) ≡ 0) l′ z in absurd (omega arith))
+    let z′ : δ (d .index) i + 0 ≡ 0 = subst (λ (b : Bool). occ i (cond b (d .index ∷ []) []) ≡ 0) l′ z in absurd (omega arith))
     (λ q′ s′ _. rw (s, s′)))
     (λ q s _. rw s)
 
 module _ (u : Ui) (hover : MaybeId) where
-  occ-three : (j : ℕ) → occ j (three u hover) ≡ occ j (slotIn u hover) + (occ j (slotIn u (u .interaction .pressed)) + occ j (slotIn u (u .interaction .focus)))
+  occ-three : (j : ℕ) → occ j (three u hover) ≡ occ j (liveSlot (limitOf u) (u .slots) hover) + (occ j (liveSlot (limitOf u) (u .slots) (u .interaction .pressed)) + occ j (liveSlot (limitOf u) (u .slots) (u .interaction .focus)))
   occ-three j =
-      let e1 = occ-append j (slotIn u hover ++ slotIn u (u .interaction .pressed)) (slotIn u (u .interaction .focus)) in
-      let e2 = occ-append j (slotIn u hover) (slotIn u (u .interaction .pressed)) in
+      let e1 = occ-append j (liveSlot (limitOf u) (u .slots) hover ++ liveSlot (limitOf u) (u .slots) (u .interaction .pressed)) (liveSlot (limitOf u) (u .slots) (u .interaction .focus)) in
+      let e2 = occ-append j (liveSlot (limitOf u) (u .slots) hover) (liveSlot (limitOf u) (u .slots) (u .interaction .pressed)) in
       omega arith
 
   pub a-live-slot-with-bits-is-one-of-the-three : (i : ℕ) → isLive (limitOf u) (u .slots) (idAt (u .slots) i) ≡ true → 0 < bitsAt u hover i → 0 < occ i (three u hover)
@@ -180,8 +181,8 @@ module _ (u : Ui) (hover : MaybeId) where
   pub the-three-are-below-the-limit : (j : ℕ) → 0 < occ j (three u hover) → j < limitOf u
   the-three-are-below-the-limit j z =
       let e = occ-three j in
-      zero-cases (occ j (slotIn u hover))
-      (λ z1. zero-cases (occ j (slotIn u (u .interaction .pressed)))
+      zero-cases (occ j (liveSlot (limitOf u) (u .slots) hover))
+      (λ z1. zero-cases (occ j (liveSlot (limitOf u) (u .slots) (u .interaction .pressed)))
       (λ z2. slot-in-below u (u .interaction .focus) j (omega arith))
       (λ z2. slot-in-below u (u .interaction .pressed) j z2))
       (λ z1. slot-in-below u hover j z1)
@@ -196,19 +197,19 @@ module _ (u : Ui) (hover : MaybeId) where
 
   three-at-most : length (three u hover) ≤ 3
   three-at-most =
-      let e1 = length-append (slotIn u hover ++ slotIn u (u .interaction .pressed)) (slotIn u (u .interaction .focus)) in
-      let e2 = length-append (slotIn u hover) (slotIn u (u .interaction .pressed)) in
+      let e1 = length-append (liveSlot (limitOf u) (u .slots) hover ++ liveSlot (limitOf u) (u .slots) (u .interaction .pressed)) (liveSlot (limitOf u) (u .slots) (u .interaction .focus)) in
+      let e2 = length-append (liveSlot (limitOf u) (u .slots) hover) (liveSlot (limitOf u) (u .slots) (u .interaction .pressed)) in
       let a = one-slot-at-most u hover in let b = one-slot-at-most u (u .interaction .pressed) in let c = one-slot-at-most u (u .interaction .focus) in
       omega arith
 
-  pub the-stated-are-those-that-bear : statedOf (refreshed u hover) ≡ bearing u hover [] (three u hover)
-  unfolding refreshed withStated withLooks
-  the-stated-are-those-that-bear = take-append-seam (bearing u hover [] (three u hover)) (drop (length (bearing u hover [] (three u hover))) (u .stated))
+  pub the-stated-are-those-that-bear : statedOf (refreshed u hover) ≡ bearing (bitsAt u hover) [] (three u hover)
+  unfolding refreshed withStated withStyles
+  the-stated-are-those-that-bear = take-append-seam (bearing (bitsAt u hover) [] (three u hover)) (drop (length (bearing (bitsAt u hover) [] (three u hover))) (u .stated))
 
 -- ---- the whole
 
 pub record Refresh (u u′ : Ui) (t t′ : Forest Info) (moved : Bool) : Type 0 where
-  pub looks : Redressed (looksOf u) (looksOf u′) t t′ moved
+  pub looks : Restyled (appearanceOf u) (appearanceOf u′) t t′ moved
   pub with-bits : AllF (λ i g x. 0 < x .bits → 0 < occ i (statedOf u′)) t′
   pub stated-below : (j : ℕ) → 0 < occ j (statedOf u′) → j < limitOf u
   pub stated-once : distinct (limitOf u) (statedOf u′) ≡ true
@@ -216,7 +217,7 @@ pub record Refresh (u u′ : Ui) (t t′ : Forest Info) (moved : Bool) : Type 0 
   pub stated-long : length (u′ .stated) ≡ 3
 
 pub a-refresh-is-every-node-wearing-its-bits : {free : ℕ} {t : Forest Info} {fl : List ℕ} (u : Ui) (hover : MaybeId) (bits : ℕ → ℕ → Info → ℕ)
-    → Rel (limitOf u) (u .slots) free t fl → Sized (looksOf u) → length (u .stated) ≡ 3
+    → Rel (limitOf u) (u .slots) free t fl → Sized (appearanceOf u) → length (u .stated) ≡ 3
     → AllF (λ i g x. Worn (u .layout) (u .states) i x) t → TablesWorn t
     → AllF (λ i g x. 0 < x .bits → 0 < occ i (statedOf u)) t
     → ((j : ℕ) → 0 < occ j (statedOf u) → j < limitOf u)
@@ -224,13 +225,13 @@ pub a-refresh-is-every-node-wearing-its-bits : {free : ℕ} {t : Forest Info} {f
     → AllF (λ i g x. bitsAt u hover i ≡ bits i g x) t
     → ((j : ℕ) → j < limitOf u → cnt j t ≡ 0 → bitsAt u hover j ≡ 0)
     → Refresh u (refreshed u hover) t (mapF (λ i g x. wears (poolOf u) (bits i g x) x) t) (anyF (λ i g x. swaps (poolOf u) (bits i g x) x) t)
-unfolding refreshed withStated withLooks wears
+unfolding refreshed withStated withStyles wears
 a-refresh-is-every-node-wearing-its-bits {t = t} u hover bits r o len w tw st sb fr be bz =
     let is : List ℕ = backwards (statedOf u) ++ three u hover in
     let small = r .small in
     let oi = occ-visited u hover in
     let lim : (j : ℕ) → 0 < occ j is → j < limitOf u = the-slots-of-a-refresh-are-below-the-limit u hover sb in
-    let borne : List ℕ = bearing u hover [] (three u hover) in
+    let borne : List ℕ = bearing (bitsAt u hover) [] (three u hover) in
     let alive : (i : ℕ) → 0 < cnt i t → isLive (limitOf u) (u .slots) (idAt (u .slots) i) ≡ true = λ i c.
     live-just-where-a-node-has-it r (idAt (u .slots) i) ∙ slots-id-is-live r i c in
     let nowIn : AllF (λ i g x. 0 < bits i g x → 0 < occ i (three u hover)) t = all-map (λ i g x. bitsAt u hover i ≡ bits i g x) (λ i g x. 0 < bits i g x → 0 < occ i (three u hover)) t
@@ -241,7 +242,7 @@ a-refresh-is-every-node-wearing-its-bits {t = t} u hover bits r o len w tw st sb
     let bb : (j : ℕ) → 0 < occ j borne → j < limitOf u = λ j z. let q = what-is-borne-was-listed u hover [] (three u hover) j z in the-three-are-below-the-limit u hover j (omega arith) in
     let W : ℕ → ℕ → Info → Type 0 = λ i g x. 0 < x .bits → 0 < occ i (statedOf (refreshed u hover)) in
     record {
-      looks = all-slots-wearing-is-every-node-wearing u hover (looksOf u) is t bits (λ j z. let l = lim j z in omega arith) o w tw be
+      looks = all-slots-wearing-is-every-node-wearing (poolOf u) (bitsAt u hover) (appearanceOf u) is t bits (λ j z. let l = lim j z in omega arith) o w tw be
           (all-map (λ i g x. 0 < x .bits → 0 < occ i (statedOf u)) (λ i g x. 0 < x .bits → 0 < occ i is) t (λ i g x _ q b. let e = oi i in let v = q b in omega arith) st)
           (all-map (λ i g x. 0 < bits i g x → 0 < occ i (three u hover)) (λ i g x. 0 < bits i g x → 0 < occ i is) t (λ i g x _ q b. let e = oi i in let v = q b in omega arith) nowIn)
           (λ j z c. fr j (lim j z) c) (λ j z c. bz j (lim j z) c);

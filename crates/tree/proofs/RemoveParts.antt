@@ -10,27 +10,28 @@ use lib.Seq.{take-all}
 use lib.ListN.{length, getD, set, length-set}
 use Rattle.field.specs.declared.NodeId.{NodeId}
 use Rattle.field.specs.declared.MaybeId.{MaybeId}
-use Rattle.tree.specs.Tests.{occ}
-use Rattle.tree.specs.Forest.{Forest, hasId, cutOf}
-use Rattle.tree.specs.Nodes.{Info}
-use Rattle.tree.specs.Slots.{at, unlink, freeOrder, freeing}
-use Rattle.tree.specs.Styles.{freshState, freshStyle, stateAt}
+use Rattle.arithmetic.specs.Tests.{occ}
+use Rattle.arena.specs.Forest.{Forest, hasId, cutOf}
+use Rattle.arena.specs.Nodes.{Info}
+use Rattle.arena.specs.Slots.{at, unlink, freeOrder, freeing}
+use Rattle.arena.specs.Styles.{freshState, freshStyle, stateAt}
 use Rattle.tree.specs.Trees.{limitOf, withNodes}
-use Rattle.tree.specs.Calls.{nobody, resetStates, removeAt}
+use Rattle.tree.specs.Calls.{nobody, removeAt}
+use Rattle.arena.specs.States.{resetStates}
 use Rattle.tree.specs.declared.Ui.{Ui}
-use Rattle.tree.specs.declared.StateSlot.{StateSlot}
-use Rattle.tree.proofs.TestLaws.{δ-same, eq-cases, zero-cases}
-use Rattle.tree.proofs.ForestLaws.{cnt, cut}
-use Rattle.tree.proofs.Relations.{once}
-use Rattle.tree.proofs.Payloads.{AllF, all-map, all-cut}
-use Rattle.tree.proofs.FreeOrders.{pushed}
-use Rattle.tree.proofs.LinkRemovals.{Removed, remove-rel}
-use Rattle.tree.proofs.Generations.{remove-keeps-epochs, remove-generation-bound}
-use Rattle.tree.proofs.Ids.{live-id, cut-of-a-live-id}
-use Rattle.tree.proofs.Rounds.{Worn}
-use Rattle.tree.proofs.WearLaws.{a-stored-state-is-there, other-states-stay}
+use Rattle.arena.specs.declared.StateSlot.{StateSlot}
+use Rattle.arithmetic.proofs.TestLaws.{δ-same, eq-cases, zero-cases}
+use Rattle.arena.proofs.Forests.ForestLaws.{cnt, cut}
+use Rattle.arena.proofs.Forests.Relations.{once}
+use Rattle.arena.proofs.Forests.Payloads.{AllF, all-map, all-cut}
+use Rattle.arena.proofs.Forests.FreeOrders.{pushed}
+use Rattle.arena.proofs.Forests.LinkRemovals.{Removed, remove-rel}
+use Rattle.arena.proofs.Forests.Generations.{remove-keeps-epochs, remove-generation-bound}
+use Rattle.arena.proofs.Forests.Ids.{live-id, cut-of-a-live-id}
+use Rattle.arena.proofs.Forests.Rounds.{Worn}
+use Rattle.arena.proofs.Styles.WearLaws.{a-stored-state-is-there, other-states-stay}
 use Rattle.tree.proofs.WellLaws.{a-bare-slot-is-well}
-use Rattle.tree.proofs.Parts.{Below, BelowMaybe, Links, Naming, Dress, Pool, Texts, Queue}
+use Rattle.tree.proofs.Relation.{Below, BelowMaybe, Links, Naming, Styled, Texts}
 use Rattle.tree.proofs.GivenIds.{NoEpochFalls, given-ids-stay-given, given-owners-stay-given, ruled-fields-stay-ruled}
 
 -- ---- states as new
@@ -127,9 +128,9 @@ module _ {k : ℕ} {u : Ui} {t : Forest Info} (L : Links k u t) (small : k < 2 ^
     apart = N .apart;
   }
 
-  pub remove-keeps-dress : Dress u t → Dress (removeAt u (d .index)) (cutOf d t)
+  pub remove-keeps-styling : Styled u t → Styled (removeAt u (d .index)) (cutOf d t)
   unfolding removeAt withNodes
-  remove-keeps-dress D =
+  remove-keeps-styling D =
       let o : List ℕ = freedBy u d in
       let s : List StateSlot = u .states in
       let ls = D .sized .1 in
@@ -161,11 +162,3 @@ module _ {k : ℕ} {u : Ui} {t : Forest Info} (L : Links k u t) (small : k < 2 ^
     owners = X .owners;
     texts = remove-keeps-all _ (X .texts);
   }
-
-  pub remove-keeps-the-pool : Pool u → Pool (removeAt u (d .index))
-  unfolding removeAt withNodes
-  remove-keeps-the-pool P = record { long = P .long; few = P .few }
-
-  pub remove-keeps-the-queue : Queue u → Queue (removeAt u (d .index))
-  unfolding removeAt withNodes
-  remove-keeps-the-queue Q = record { long = Q .long; few = Q .few }

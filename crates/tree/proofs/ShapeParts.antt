@@ -8,15 +8,15 @@ use Rattle.field.specs.declared.NodeId.{NodeId}
 use Rattle.field.specs.declared.MaybeId.{MaybeId}
 use Rattle.field.specs.declared.MaybeId.the-variants.{Absent, Present}
 use Rattle.field.specs.declared.Field.{Field}
-use Rattle.tree.specs.Slots.{Slots}
-use Rattle.tree.specs.Forest.{Forest, size}
-use Rattle.tree.specs.Nodes.{Info}
-use Rattle.tree.specs.Fields.{fieldOf}
+use Rattle.arena.specs.Slots.{Slots}
+use Rattle.arena.specs.Forest.{Forest, size}
+use Rattle.arena.specs.Nodes.{Info}
+use Rattle.arena.specs.Fields.{fieldOf}
 use Rattle.tree.specs.Trees.{limitOf}
 use Rattle.tree.specs.Calls.{nobody}
 use Rattle.tree.specs.declared.Ui.{Ui}
-use Rattle.tree.proofs.Payloads.{AllF, shape, shape-size, cnt-shape, rel-shape}
-use Rattle.tree.proofs.Parts.{Below, BelowMaybe, Links, Naming, Ruled, AllFields, textIn, Texts}
+use Rattle.arena.proofs.Forests.Payloads.{AllF, shape, shape-size, cnt-shape, rel-shape}
+use Rattle.tree.proofs.Relation.{Below, BelowMaybe, Links, Naming, Ruled, AllFields, textIn, Texts}
 
 pub links-after : (k : ℕ) (u : Ui) (t : Forest Info) → Links k u t → Links (suc k) u t
 links-after k u t h = record { chain = h .chain; rel = h .rel; count = h .count; young = λ j. let q = h .young j in omega arith }
@@ -40,9 +40,6 @@ module _ (t t′ : Forest Info) (e : shape t ≡ shape t′) where
     count = el ∙ h .count ∙ size-by-shape;
     young = λ j. rw es (h .young j);
   }
-
-  pub links-by-shape : (k : ℕ) (u u′ : Ui) → u′ .slots ≡ u .slots → u′ .free ≡ u .free → u′ .live ≡ u .live → limitOf u′ ≡ limitOf u → Links k u t → Links (suc k) u′ t′
-  links-by-shape k u u′ es ef el en h = links-after k u′ t′ (links-of-shape k u u′ es ef el en h)
 
   pub naming-by-shape : (s : Slots) (named : List NodeId) → Naming s t named
       → AllF (λ i g x. (x .name < length named) × (getD named (x .name) nobody ≡ record { index = i; generation = g })) t′ → Naming s t′ named

@@ -7,20 +7,20 @@ use lib.ListN.{getD, replicate, length-replicate, getD-replicate}
 use Rattle.field.specs.Fields.{emptyField}
 use Rattle.field.specs.declared.NodeId.{NodeId}
 use Rattle.field.proofs.Laws.{empty-field-keeps-the-rules}
-use Rattle.tree.specs.Tests.{fromTo}
-use Rattle.tree.specs.Forest.{Forest, nil, node}
-use Rattle.tree.specs.Nodes.{Info, newInfo}
-use Rattle.tree.specs.Slots.{Slots, at}
-use Rattle.tree.specs.Styles.{freshLayout, freshState, freshStyle, noState, layoutAt, stateAt}
-use Rattle.tree.specs.Fields.{fieldOf}
-use Rattle.tree.specs.Rules.{distinct, ownersWell}
+use Rattle.arithmetic.specs.Tests.{fromTo}
+use Rattle.arena.specs.Forest.{Forest, nil, node}
+use Rattle.arena.specs.Nodes.{Info, newInfo}
+use Rattle.arena.specs.Slots.{Slots, at}
+use Rattle.arena.specs.Styles.{freshLayout, freshState, freshStyle, noState, layoutAt, stateAt}
+use Rattle.arena.specs.Fields.{fieldOf}
+use Rattle.arena.specs.Rules.{distinct, ownersWell}
 use Rattle.tree.specs.Calls.{nobody, fresh}
-use Rattle.tree.proofs.TestLaws.{δ-refl}
-use Rattle.tree.proofs.ForestLaws.{cnt}
-use Rattle.tree.proofs.Starts.{start-rel, start-generations, start-root-generation}
-use Rattle.tree.proofs.WearLaws.{a-fresh-table-has-no-patch}
+use Rattle.arithmetic.proofs.TestLaws.{δ-refl}
+use Rattle.arena.proofs.Forests.ForestLaws.{cnt}
+use Rattle.arena.proofs.Forests.Starts.{start-rel, start-generations, start-root-generation}
+use Rattle.arena.proofs.Styles.WearLaws.{a-fresh-table-has-no-patch}
 use Rattle.tree.proofs.WellLaws.{a-bare-slot-is-well}
-use Rattle.tree.proofs.Parts.{Ruled, AllFields, Links, Naming, Dress, Pool, Texts, Queue}
+use Rattle.tree.proofs.Relation.{Ruled, AllFields, Links, Naming, Styled, Pool, Texts, Queue}
 
 abbrev pub onlyRoot : Forest Info
 onlyRoot = node 0 1 (newInfo 0) nil nil
@@ -58,9 +58,9 @@ module _ (n : ℕ) (l : 1 ≤ n) (h : n ≤ 128) where
       go zero b = let e = start-root-generation n in let q = δ-refl 0 in omega arith
       go (suc m) b = absurd (omega arith)
 
-  pub start-has-dress : Dress (fresh n) onlyRoot
+  pub start-has-styling : Styled (fresh n) onlyRoot
   unfolding fresh distinct
-  start-has-dress = record {
+  start-has-styling = record {
     sized = (length-replicate 128 freshLayout, length-replicate 128 freshState);
     worn = ((rw the-roots-layout-is-fresh, all-states-are-fresh 0 (omega arith)), tt, tt);
     tables = (sym (a-fresh-table-has-no-patch 0), tt, tt);

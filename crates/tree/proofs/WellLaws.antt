@@ -8,25 +8,26 @@ use native.Mathlib.Omega.{arith}
 use borrow.Author.Tests.{leb-true, le-leb}
 use lib.Dec.{leb}
 use lib.ListN.{length, getD, take, replicate}
-use Rattle.text.proofs.Picks.{and-left, and-right}
+use Rattle.arithmetic.proofs.BoolLaws.{and-left, and-right}
 use Rattle.field.specs.declared.MaybeId.{MaybeId}
-use Rattle.tree.specs.Tests.{occ, all, fromTo}
-use Rattle.tree.specs.Styles.{noPatch, noState, freshTable, bareState, stateAt}
-use Rattle.tree.specs.Trees.{limitOf, poolOf, statedOf, withLooks, withStated, withPool}
-use Rattle.tree.specs.States.{Looks, looksOf, entryOf, inPool, wearing, wearAll, bitsOf, bitsAt, based, tabled, styledAt, tabledAt, bareAll, refreshed, backwards}
-use Rattle.tree.specs.Rules.{stateWell}
+use Rattle.arithmetic.specs.Tests.{occ, all, fromTo}
+use Rattle.arena.specs.Styles.{noPatch, noState, freshTable, bareState, stateAt}
+use Rattle.tree.specs.Trees.{limitOf, poolOf, statedOf, withStyles, withStated, withPool}
+use Rattle.arena.specs.States.{Appearance, entryOf, inPool, wearing, wearAll, bitsOf, based, tabled, bareAll, backwards}
+use Rattle.tree.specs.Wearing.{appearanceOf, bitsAt, styledAt, tabledAt, refreshed}
+use Rattle.arena.specs.Rules.{stateWell}
 use Rattle.tree.specs.Calls.{pooled}
 use Rattle.tree.specs.declared.Ui.{Ui}
-use Rattle.tree.specs.declared.Style.{Style}
-use Rattle.tree.specs.declared.StateSlot.{StateSlot}
-use Rattle.tree.specs.declared.StatePatch.{StatePatch}
-use Rattle.tree.proofs.TestLaws.{same-refl, eq-cases, zero-cases}
-use Rattle.tree.proofs.Starts.{occ-within}
-use Rattle.tree.proofs.RuleLaws.{both-true, occurs-below}
-use Rattle.tree.proofs.Rounds.{Look, lookAt, Sized, Stepped, Stepping, Inside, a-slot-not-visited-stays, a-slot-visited-is-changed}
-use Rattle.tree.proofs.WearLaws.{wearStep, bareStep, wear-all-is-a-round, bare-all-is-a-round}
+use Rattle.arena.specs.declared.Style.{Style}
+use Rattle.arena.specs.declared.StateSlot.{StateSlot}
+use Rattle.arena.specs.declared.StatePatch.{StatePatch}
+use Rattle.arithmetic.proofs.TestLaws.{same-refl, eq-cases, zero-cases}
+use Rattle.arena.proofs.Forests.Starts.{occ-within}
+use Rattle.arena.proofs.Checks.RuleLaws.{both-true, occurs-below}
+use Rattle.arena.proofs.Forests.Rounds.{Look, lookAt, Sized, Stepped, Stepping, Inside, a-slot-not-visited-stays, a-slot-visited-is-changed}
+use Rattle.arena.proofs.Styles.WearLaws.{wearStep, bareStep, wear-all-is-a-round, bare-all-is-a-round}
 use Rattle.tree.proofs.RefreshLaws.{three, the-slots-of-a-refresh-are-below-the-limit}
-use Rattle.tree.proofs.DressLaws.{style-step, table-step}
+use Rattle.tree.proofs.StylingLaws.{style-step, table-step}
 
 -- ---- a test of all of a list's front
 
@@ -115,35 +116,35 @@ bits-of-a-well-slot count s e =
 
 -- ---- all slots
 
-pub slots-that-wear-are-well : (count n : ℕ) (u : Ui) (hover : MaybeId) (k : Looks) (is : List ℕ) → Inside is → Sized k → StatesWell count n (k .states) → StatesWell count n (wearAll u hover k is .states)
+pub slots-that-wear-are-well : (count n : ℕ) (u : Ui) (hover : MaybeId) (k : Appearance) (is : List ℕ) → Inside is → Sized k → StatesWell count n (k .states) → StatesWell count n (wearAll (poolOf u) (bitsAt u hover) k is .states)
 slots-that-wear-are-well count n u hover k is b o w j h =
     let S : Stepping = wearStep (poolOf u) (bitsAt u hover) in
-    subst (λ (k′ : Looks). stateWell count (stateAt (k′ .states) j) ≡ true) (sym (wear-all-is-a-round u hover k is))
+    subst (λ (k′ : Appearance). stateWell count (stateAt (k′ .states) j) ≡ true) (sym (wear-all-is-a-round (poolOf u) (bitsAt u hover) k is))
     (zero-cases (occ j is)
     (λ z. ap (λ (e : Look). stateWell count (e .state)) (a-slot-not-visited-stays S k is b o j z) ∙ w j h)
     (λ z. ap (λ (e : Look). stateWell count (e .state)) (a-slot-visited-is-changed S k is b o j z) ∙ a-slot-that-wears-is-well count (stateAt (k .states) j) (bitsAt u hover j) (bits-are-7-at-most u hover j) (w j h)))
 
-pub a-refreshed-tree-is-well : (count n : ℕ) (u : Ui) (hover : MaybeId) → limitOf u ≤ 128 → Sized (looksOf u) → ((j : ℕ) → 0 < occ j (statedOf u) → j < limitOf u)
+pub a-refreshed-tree-is-well : (count n : ℕ) (u : Ui) (hover : MaybeId) → limitOf u ≤ 128 → Sized (appearanceOf u) → ((j : ℕ) → 0 < occ j (statedOf u) → j < limitOf u)
     → StatesWell count n (u .states) → StatesWell count n (refreshed u hover .states)
-unfolding refreshed withStated withLooks
+unfolding refreshed withStated withStyles
 a-refreshed-tree-is-well count n u hover m o sb w =
-    slots-that-wear-are-well count n u hover (looksOf u) (backwards (statedOf u) ++ three u hover)
+    slots-that-wear-are-well count n u hover (appearanceOf u) (backwards (statedOf u) ++ three u hover)
     (λ j z. let h = the-slots-of-a-refresh-are-below-the-limit u hover sb j z in omega arith) o w
 
 -- whatever the pool is
-pub bare-slots-are-well : (count n : ℕ) (k : Looks) → n ≤ 128 → Sized k → StatesWell count n (bareAll k (fromTo 0 n) .states)
+pub bare-slots-are-well : (count n : ℕ) (k : Appearance) → n ≤ 128 → Sized k → StatesWell count n (bareAll k (fromTo 0 n) .states)
 bare-slots-are-well count n k m o j h =
     let is : List ℕ = fromTo 0 n in
     let q = occ-within 0 n j (omega arith) (omega arith) in
-    subst (λ (k′ : Looks). stateWell count (stateAt (k′ .states) j) ≡ true) (sym (bare-all-is-a-round k is))
+    subst (λ (k′ : Appearance). stateWell count (stateAt (k′ .states) j) ≡ true) (sym (bare-all-is-a-round k is))
     (ap (λ (e : Look). stateWell count (e .state)) (a-slot-visited-is-changed bareStep k is (λ i z. let b = occurs-below n i z in omega arith) o j (omega arith))
     ∙ a-bare-slot-is-well count (stateAt (k .states) j .base))
 
-pub a-tree-with-a-new-pool-is-well : (u : Ui) (patches : List StatePatch) (count : ℕ) → limitOf u ≤ 128 → Sized (looksOf u) → StatesWell count (limitOf u) (pooled u patches count .states)
-unfolding pooled withPool withLooks
-a-tree-with-a-new-pool-is-well u patches count m o = bare-slots-are-well count (limitOf u) (looksOf u) m o
+pub a-tree-with-a-new-pool-is-well : (u : Ui) (patches : List StatePatch) (count : ℕ) → limitOf u ≤ 128 → Sized (appearanceOf u) → StatesWell count (limitOf u) (pooled u patches count .states)
+unfolding pooled withPool withStyles
+a-tree-with-a-new-pool-is-well u patches count m o = bare-slots-are-well count (limitOf u) (appearanceOf u) m o
 
-one-slot-well : (count n : ℕ) (change : Look → Look) (moves : Look → Bool) (k k′ : Looks) (i : ℕ) → Stepped change moves k i k′ → ((e : Look) → stateWell count (e .state) ≡ true → stateWell count (change e .state) ≡ true)
+one-slot-well : (count n : ℕ) (change : Look → Look) (moves : Look → Bool) (k k′ : Appearance) (i : ℕ) → Stepped change moves k i k′ → ((e : Look) → stateWell count (e .state) ≡ true → stateWell count (change e .state) ≡ true)
     → StatesWell count n (k .states) → StatesWell count n (k′ .states)
 one-slot-well count n change moves k k′ i S c w j h =
     eq-cases j i
@@ -151,11 +152,11 @@ one-slot-well count n change moves k k′ i S c w j h =
     (λ v. ap (λ (e : Look). stateWell count (e .state)) (S .here) ∙ c (lookAt k i) v) (w j h))
     (λ e _ _. ap (λ (e : Look). stateWell count (e .state)) (S .elsewhere j e) ∙ w j h)
 
-pub a-styled-tree-is-well : (count n : ℕ) (u : Ui) (i : ℕ) (y : Style) → Sized (looksOf u) → i < 128 → StatesWell count n (u .states) → StatesWell count n (styledAt u i y .states)
+pub a-styled-tree-is-well : (count n : ℕ) (u : Ui) (i : ℕ) (y : Style) → Sized (appearanceOf u) → i < 128 → StatesWell count n (u .states) → StatesWell count n (styledAt u i y .states)
 a-styled-tree-is-well count n u i y o h w =
-    one-slot-well count n _ _ (looksOf u) (looksOf (styledAt u i y)) i (style-step u i y o h) (λ e v. a-based-slot-is-well count (e .state) y v) w
+    one-slot-well count n _ _ (appearanceOf u) (appearanceOf (styledAt u i y)) i (style-step u i y o h) (λ e v. a-based-slot-is-well count (e .state) y v) w
 
-pub a-tabled-tree-is-well : (count n : ℕ) (u : Ui) (i : ℕ) (table : List ℕ) → Sized (looksOf u) → i < 128 → all (inPool count) table ≡ true → StatesWell count n (u .states) → StatesWell count n (tabledAt u i table .states)
+pub a-tabled-tree-is-well : (count n : ℕ) (u : Ui) (i : ℕ) (table : List ℕ) → Sized (appearanceOf u) → i < 128 → all (inPool count) table ≡ true → StatesWell count n (u .states) → StatesWell count n (tabledAt u i table .states)
 a-tabled-tree-is-well count n u i table o h t w =
-    one-slot-well count n _ _ (looksOf u) (looksOf (tabledAt u i table)) i (table-step u i table o h)
+    one-slot-well count n _ _ (appearanceOf u) (appearanceOf (tabledAt u i table)) i (table-step u i table o h)
     (λ e v. a-slot-that-wears-is-well count (tabled (e .state) table) (e .state .bits) (bits-of-a-well-slot count (e .state) v) (a-tabled-slot-is-well count (e .state) table t v)) w

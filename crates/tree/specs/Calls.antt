@@ -1,11 +1,11 @@
 -- Document 01: each call of the tree, with its answer and the next tree. The lowest refusal number that applies is given; a refused call
 -- hands back the tree that it got.
-use Prim.Native.Nat.{ℕ, zero, suc, _+_, _-_}
-use mathlib.Core.Bool.{Bool, true, false, _&&_, _||_, not}
-use mathlib.Core.List.{List, [], _∷_, _++_}
-use lib.Dec.{ltb, eqb}
-use lib.IntN.{ℤ, pos, negsuc}
-use lib.ListN.{length, set, take, replicate}
+use Prim.Native.Nat.{ℕ, _+_, _-_}
+use mathlib.Core.Bool.{Bool, true, false, _&&_, not, cond}
+use mathlib.Core.List.{List}
+use lib.Dec.{ltb}
+use lib.IntN.{pos}
+use lib.ListN.{length, set, replicate}
 use Rattle.text.specs.Refusal.{Answer, accepted, refused}
 use Rattle.text.specs.declared.refusal.Refusal.{Refusal}
 use Rattle.text.specs.declared.refusal.Refusal.the-variants.{Broken, Large, Missing, Full, Root, Foreign, Long, Fieldless}
@@ -14,21 +14,20 @@ use Rattle.field.specs.declared.NodeId.{NodeId}
 use Rattle.field.specs.declared.MaybeId.{MaybeId}
 use Rattle.field.specs.declared.MaybeId.the-variants.{Absent, Present}
 use Rattle.field.specs.declared.Field.{Field}
-use Rattle.tree.specs.Tests.{pick, same, all, fromTo, finalOr, Maybe, nothing, just}
-use Rattle.tree.specs.Slots.{NIL, Slots, noSlot, at, put, used, idle, isLive, idAt, linkLast, unlink, freeing, freed}
-use Rattle.tree.specs.Styles.{noPatch, noRect, freshStyle, freshLayout, freshState, noLayout, noState, noStatePatch, layoutAt}
-use Rattle.tree.specs.States.{Looks, looksOf, inPool, styledAt, tabledAt, bareAll, isId}
-use Rattle.tree.specs.Layout.{passed}
-use Rattle.tree.specs.Fields.{fieldOf, vacant, reclaimed, claimed, firstField}
-use Rattle.tree.specs.Trees.{limitOf, poolOf, withNodes, withLooks, withPool, withFields, withPass}
-use Rattle.tree.specs.Rules.{broken}
+use Rattle.arithmetic.specs.Tests.{same, sameZ, all, fromTo, finalOr, Maybe, nothing, just}
+use Rattle.arena.specs.Slots.{NIL, at, put, used, isLive, idAt, linkLast, unlink, freeing, freed, newSlots}
+use Rattle.arena.specs.Styles.{noRect, freshStyle, freshLayout, freshState, layoutAt}
+use Rattle.arena.specs.States.{inPool, bareAll, resetStates}
+use Rattle.tree.specs.Wearing.{appearanceOf, styledAt, tabledAt}
+use Rattle.arena.specs.Layout.{passed}
+use Rattle.arena.specs.Fields.{fieldOf, vacant, reclaimed, claimed, firstField}
+use Rattle.tree.specs.Trees.{limitOf, withNodes, withStyles, withPool, withFields, withPass}
+use Rattle.tree.specs.Broken.{broken}
 use Rattle.tree.specs.declared.Ui.{Ui}
-use Rattle.tree.specs.declared.Slot.{Slot}
-use Rattle.tree.specs.declared.Style.{Style}
-use Rattle.tree.specs.declared.Rect.{Rect}
-use Rattle.tree.specs.declared.StateSlot.{StateSlot}
-use Rattle.tree.specs.declared.StatePatch.{StatePatch}
-use Rattle.tree.specs.declared.Viewport.{Viewport}
+use Rattle.arena.specs.declared.Style.{Style}
+use Rattle.arena.specs.declared.Rect.{Rect}
+use Rattle.arena.specs.declared.StatePatch.{StatePatch}
+use Rattle.arena.specs.declared.Viewport.{Viewport}
 
 -- What a call gives: the next tree, and its answer.
 pub record Outcome (A : Type 0) : Type 0 where
@@ -46,19 +45,10 @@ nobody = record { index = 0; generation = 0 }
 
 -- A broken tree is refused; then a node that is not live.
 unfoldable pub guarded : {A : Type 0} → Ui → A → Outcome A → Outcome A
-guarded u none o = pick (broken u) (refuses u Broken none) o
+guarded u none o = cond (broken u) (refuses u Broken none) o
 
 unfoldable pub onLive : {A : Type 0} → Ui → NodeId → A → Outcome A → Outcome A
-onLive u d none o = guarded u none (pick (isLive (limitOf u) (u .slots) d) o (refuses u Missing none))
-
--- `Ui::new`: the root alone; the other slots below the limit in the free chain, in index order.
-unfoldable pub newSlot : ℕ → ℕ → Slot
-newSlot n zero = used 1 NIL NIL NIL NIL NIL
-newSlot n (suc i) = pick (ltb (suc i) n) (idle 1 (pick (ltb (suc (suc i)) n) (suc (suc i)) NIL)) noSlot
-
-unfoldable pub newSlots : ℕ → ℕ → ℕ → Slots
-newSlots n i zero = []
-newSlots n i (suc k) = newSlot n i ∷ newSlots n (suc i) k
+onLive u d none o = guarded u none (cond (isLive (limitOf u) (u .slots) d) o (refuses u Missing none))
 
 unfoldable pub fresh : ℕ → Ui
 fresh n = record {
@@ -75,7 +65,7 @@ fresh n = record {
   stated = replicate 3 0;
   «stated_count» = 0;
   «layout_passes» = 0;
-  free = pick (ltb 1 n) 1 NIL;
+  free = cond (ltb 1 n) 1 NIL;
   live = 1;
   limits = record { nodes = n };
   fields = replicate 8 emptyField;
@@ -83,7 +73,7 @@ fresh n = record {
 
 -- A limit of 0 means 1; one above 128 is refused, with the tree of limit 1.
 unfoldable pub newTree : ℕ → Outcome ℕ
-newTree limit = pick (ltb 128 limit) (refuses (fresh 1) Large 0) (gives (fresh (pick (same limit 0) 1 limit)) 0)
+newTree limit = cond (ltb 128 limit) (refuses (fresh 1) Large 0) (gives (fresh (cond (same limit 0) 1 limit)) 0)
 
 -- A new last child of slot p, in the first free slot.
 unfoldable pub insertAt : Ui → ℕ → Ui
@@ -97,12 +87,7 @@ insertAt u p =
 unfoldable pub insert : Ui → NodeId → Outcome NodeId
 insert u parent =
     onLive u parent nobody
-    (pick (same (u .free) NIL) (refuses u Full nobody) (gives (insertAt u (parent .index)) (idAt (u .slots) (u .free))))
-
--- Slot i and all below it leave the tree; their state slots are as new.
-unfoldable pub resetStates : List StateSlot → List ℕ → List StateSlot
-resetStates l [] = l
-resetStates l (i ∷ is) = resetStates (set l i freshState) is
+    (cond (same (u .free) NIL) (refuses u Full nobody) (gives (insertAt u (parent .index)) (idAt (u .slots) (u .free))))
 
 unfoldable pub removeAt : Ui → ℕ → Ui
 removeAt u i =
@@ -111,23 +96,23 @@ removeAt u i =
     withNodes u (freed s (u .free) o) (u .layout) (resetStates (u .states) o) (finalOr (u .free) o) (u .live - length o)
 
 unfoldable pub remove : Ui → NodeId → Outcome ℕ
-remove u d = onLive u d 0 (pick (same (d .index) 0) (refuses u Root 0) (gives (removeAt u (d .index)) 0))
+remove u d = onLive u d 0 (cond (same (d .index) 0) (refuses u Root 0) (gives (removeAt u (d .index)) 0))
 
 unfoldable pub setStyle : Ui → NodeId → Style → Outcome ℕ
 setStyle u d style = onLive u d 0 (gives (styledAt u (d .index) style) 0)
 
 unfoldable pub setStateTable : Ui → NodeId → List ℕ → Outcome ℕ
 setStateTable u d table =
-    onLive u d 0 (pick (all (inPool (u .«patch_count»)) table) (gives (tabledAt u (d .index) table) 0) (refuses u Foreign 0))
+    onLive u d 0 (cond (all (inPool (u .«patch_count»)) table) (gives (tabledAt u (d .index) table) 0) (refuses u Foreign 0))
 
 -- The pool is the first `count` of the patches; every slot below the limit loses table, bits and patch.
 unfoldable pub pooled : Ui → List StatePatch → ℕ → Ui
 pooled u patches count =
-    let k = bareAll (looksOf u) (fromTo 0 (limitOf u)) in
-    withPool (withLooks u (k .layout) (k .states) (k .dirty)) patches count
+    let k = bareAll (appearanceOf u) (fromTo 0 (limitOf u)) in
+    withPool (withStyles u (k .layout) (k .states) (k .dirty)) patches count
 
 unfoldable pub setPatchPool : Ui → List StatePatch → ℕ → Outcome ℕ
-setPatchPool u patches count = guarded u 0 (pick (ltb 64 count) (refuses u Long 0) (gives (pooled u patches count) 0))
+setPatchPool u patches count = guarded u 0 (cond (ltb 64 count) (refuses u Long 0) (gives (pooled u patches count) 0))
 
 -- A node that has a field keeps it. Otherwise the fields of dead owners are cleared and the first free one is taken.
 abbrev pub takeVacant : Ui → NodeId → Maybe Field → Outcome ℕ
@@ -166,19 +151,12 @@ fieldText u d = onField u d noText (λ f. gives u (shown f))
 unfoldable pub fieldCursor : Ui → NodeId → Outcome ℕ
 fieldCursor u d = onField u d 0 (λ f. gives u (f .cursor))
 
--- A pass is made where one is due or the viewport is another.
-abbrev pub sameZ : ℤ → ℤ → Bool
-sameZ (pos m) (pos n) = same m n
-sameZ (pos m) (negsuc n) = false
-sameZ (negsuc m) (pos n) = false
-sameZ (negsuc m) (negsuc n) = same m n
-
 abbrev pub sameView : Viewport → Viewport → Bool
 sameView v w = sameZ (v .width) (w .width) && sameZ (v .height) (w .height)
 
 unfoldable pub solve : Ui → Viewport → Outcome ℕ
 solve u v =
-    guarded u 0 (pick (not (u .dirty) && sameView (u .«solved_for») v) (gives u 0) (gives (withPass u (passed (u .slots) (u .layout) v) v) 0))
+    guarded u 0 (cond (not (u .dirty) && sameView (u .«solved_for») v) (gives u 0) (gives (withPass u (passed (u .slots) (u .layout) v) v) 0))
 
 unfoldable pub rect : Ui → NodeId → Outcome Rect
 rect u d = onLive u d noRect (gives u (layoutAt (u .layout) (d .index) .rect))
@@ -187,12 +165,12 @@ rect u d = onLive u d noRect (gives u (layoutAt (u .layout) (d .index) .rect))
 unfoldable pub live : Ui → NodeId → Outcome Bool
 live u d = guarded u false (gives u (isLive (limitOf u) (u .slots) d))
 
-abbrev pub linked : Ui → ℕ → MaybeId
-linked u i = pick (same i NIL) Absent (Present (idAt (u .slots) i))
+abbrev pub neighbourAt : Ui → ℕ → MaybeId
+neighbourAt u i = cond (same i NIL) Absent (Present (idAt (u .slots) i))
 
 unfoldable pub firstChild : Ui → NodeId → Outcome MaybeId
 firstChild u d =
-    guarded u Absent (gives u (pick (isLive (limitOf u) (u .slots) d) (linked u (at (u .slots) (d .index) .«first_child»)) Absent))
+    guarded u Absent (gives u (cond (isLive (limitOf u) (u .slots) d) (neighbourAt u (at (u .slots) (d .index) .«first_child»)) Absent))
 
 unfoldable pub nextSibling : Ui → NodeId → Outcome MaybeId
-nextSibling u d = onLive u d Absent (gives u (linked u (at (u .slots) (d .index) .«next_sibling»)))
+nextSibling u d = onLive u d Absent (gives u (neighbourAt u (at (u .slots) (d .index) .«next_sibling»)))

@@ -1,18 +1,19 @@
 -- The tree's getters and setters: definitions touch the tree through these alone, so that a field more changes this file.
-use Prim.Native.Nat.{ℕ, _+_, _^_, min}
+use Prim.Native.Nat.{ℕ}
 use mathlib.Core.Bool.{Bool, true, false}
-use mathlib.Core.List.{List, [], _∷_, _++_}
-use lib.ListN.{length, take, drop}
+use mathlib.Core.List.{List}
+use lib.ListN.{length, take}
 use Rattle.arithmetic.specs.Scalar.{incremented}
 use Rattle.field.specs.declared.NodeId.{NodeId}
 use Rattle.field.specs.declared.Field.{Field}
 use Rattle.tree.specs.declared.Ui.{Ui}
-use Rattle.tree.specs.declared.Slot.{Slot}
-use Rattle.tree.specs.declared.LayoutSlot.{LayoutSlot}
-use Rattle.tree.specs.declared.StateSlot.{StateSlot}
-use Rattle.tree.specs.declared.StatePatch.{StatePatch}
+use Rattle.arena.specs.declared.Slot.{Slot}
+use Rattle.arena.specs.declared.LayoutSlot.{LayoutSlot}
+use Rattle.arena.specs.declared.StateSlot.{StateSlot}
+use Rattle.arena.specs.declared.StatePatch.{StatePatch}
 use Rattle.tree.specs.declared.Interaction.{Interaction}
-use Rattle.tree.specs.declared.Viewport.{Viewport}
+use Rattle.arena.specs.declared.Viewport.{Viewport}
+use Rattle.arithmetic.specs.Tests.{over}
 
 -- The limit in force, the pool, the stated slots and the waiting outputs, oldest first.
 abbrev pub limitOf : Ui → ℕ
@@ -27,17 +28,13 @@ statedOf u = take (u .«stated_count») (u .stated)
 abbrev pub waitingOf : Ui → List NodeId
 waitingOf u = take (u .«output_count») (u .outputs)
 
--- A list written over the front of an array: places past the count keep what they held.
-abbrev pub over : {A : Type 0} → List A → List A → List A
-over s old = s ++ drop (length s) old
-
 -- Nodes came or went: the next pass is due.
 unfoldable pub withNodes : Ui → List Slot → List LayoutSlot → List StateSlot → ℕ → ℕ → Ui
 withNodes u slots′ layout′ states′ free′ live′ = record { slots = slots′; layout = layout′; dirty = true; «solved_for» = u .«solved_for»; interaction = u .interaction; outputs = u .outputs; «output_count» = u .«output_count»; states = states′; patches = u .patches; «patch_count» = u .«patch_count»; stated = u .stated; «stated_count» = u .«stated_count»; «layout_passes» = u .«layout_passes»; free = free′; live = live′; limits = u .limits; fields = u .fields }
 
 -- Other styles, tables or bits.
-unfoldable pub withLooks : Ui → List LayoutSlot → List StateSlot → Bool → Ui
-withLooks u layout′ states′ dirty′ = record { slots = u .slots; layout = layout′; dirty = dirty′; «solved_for» = u .«solved_for»; interaction = u .interaction; outputs = u .outputs; «output_count» = u .«output_count»; states = states′; patches = u .patches; «patch_count» = u .«patch_count»; stated = u .stated; «stated_count» = u .«stated_count»; «layout_passes» = u .«layout_passes»; free = u .free; live = u .live; limits = u .limits; fields = u .fields }
+unfoldable pub withStyles : Ui → List LayoutSlot → List StateSlot → Bool → Ui
+withStyles u layout′ states′ dirty′ = record { slots = u .slots; layout = layout′; dirty = dirty′; «solved_for» = u .«solved_for»; interaction = u .interaction; outputs = u .outputs; «output_count» = u .«output_count»; states = states′; patches = u .patches; «patch_count» = u .«patch_count»; stated = u .stated; «stated_count» = u .«stated_count»; «layout_passes» = u .«layout_passes»; free = u .free; live = u .live; limits = u .limits; fields = u .fields }
 
 -- Another pool, with no slot stated.
 unfoldable pub withPool : Ui → List StatePatch → ℕ → Ui
@@ -64,5 +61,5 @@ unfoldable pub withWaiting : Ui → List NodeId → Ui
 withWaiting u waiting = record { slots = u .slots; layout = u .layout; dirty = u .dirty; «solved_for» = u .«solved_for»; interaction = u .interaction; outputs = over waiting (u .outputs); «output_count» = length waiting; states = u .states; patches = u .patches; «patch_count» = u .«patch_count»; stated = u .stated; «stated_count» = u .«stated_count»; «layout_passes» = u .«layout_passes»; free = u .free; live = u .live; limits = u .limits; fields = u .fields }
 
 -- What an event changes, before the bits are refreshed: interaction, fields, outputs and their count.
-unfoldable pub withHeard : Ui → Interaction → List Field → List NodeId → ℕ → Ui
-withHeard u interaction′ fields′ outputs′ count′ = record { slots = u .slots; layout = u .layout; dirty = u .dirty; «solved_for» = u .«solved_for»; interaction = interaction′; outputs = outputs′; «output_count» = count′; states = u .states; patches = u .patches; «patch_count» = u .«patch_count»; stated = u .stated; «stated_count» = u .«stated_count»; «layout_passes» = u .«layout_passes»; free = u .free; live = u .live; limits = u .limits; fields = fields′ }
+unfoldable pub withEventParts : Ui → Interaction → List Field → List NodeId → ℕ → Ui
+withEventParts u interaction′ fields′ outputs′ count′ = record { slots = u .slots; layout = u .layout; dirty = u .dirty; «solved_for» = u .«solved_for»; interaction = interaction′; outputs = outputs′; «output_count» = count′; states = u .states; patches = u .patches; «patch_count» = u .«patch_count»; stated = u .stated; «stated_count» = u .«stated_count»; «layout_passes» = u .«layout_passes»; free = u .free; live = u .live; limits = u .limits; fields = fields′ }

@@ -1,48 +1,46 @@
--- Looks put back into the tree, slots that wear their bits one after the other, and slots kept in an array of 3 with a count.
-use Prim.Native.Nat.{ℕ, _+_}
-use mathlib.Core.Bool.{Bool, _&&_, not}
-use mathlib.Core.List.{List, [], _∷_}
-use lib.ListN.{length, set, take}
+-- Document 01, **States**, over the whole tree: what nodes wear for their bits, and how styles and tables change it.
+use Prim.Native.Nat.{ℕ}
+use mathlib.Core.Bool.{true, cond}
+use mathlib.Core.List.{List, [], _++_}
+use lib.ListN.{set}
 use Rattle.field.specs.declared.MaybeId.{MaybeId}
-use Rattle.field.specs.declared.MaybeId.the-variants.{Absent, Present}
-use Rattle.tree.specs.Slots.{Slots, isLive}
-use Rattle.tree.specs.Tests.{pick, same, occ}
-use Rattle.tree.specs.States.{Looks, looksOf, wear, bitsAt}
-use Rattle.tree.specs.Trees.{poolOf, over, withLooks}
+use Rattle.arithmetic.specs.Tests.{same}
+use Rattle.arena.specs.Styles.{noPatch, layoutAt, stateAt}
+use Rattle.arena.specs.States.{Appearance, wear, wearAll, withStyle, bitsBy, liveSlot, bearing, backwards, based, tabled}
+use Rattle.tree.specs.Trees.{limitOf, poolOf, statedOf, withStyles, withStated}
 use Rattle.tree.specs.declared.Ui.{Ui}
-use Rattle.tree.specs.declared.wearing.Kept.{Kept}
-use Rattle.tree.specs.declared.wearing.Turns.{Turns}
+use Rattle.arena.specs.declared.Style.{Style}
 
--- The tree with other looks.
-unfoldable pub looking : Ui → Looks → Ui
-looking u k = withLooks u (k .layout) (k .states) (k .dirty)
+-- What wearing changes of the tree, and the tree with another.
+abbrev pub appearanceOf : Ui → Appearance
+appearanceOf u = record { layout = u .layout; states = u .states; dirty = u .dirty }
 
--- Each slot of a list wears its bits.
-unfoldable pub wornAll : Ui → MaybeId → List ℕ → Ui
-wornAll u hover [] = u
-wornAll u hover (i ∷ is) = wornAll (looking u (wear (poolOf u) (looksOf u) i (bitsAt u hover i))) hover is
+unfoldable pub withAppearance : Ui → Appearance → Ui
+withAppearance u k = withStyles u (k .layout) (k .states) (k .dirty)
 
--- One slot more, where it is asked for and not yet there.
-unfoldable pub keptMore : Kept → Bool → ℕ → Kept
-keptMore k asked i =
-    pick (asked && same (occ i (take (k .count) (k .items))) 0)
-    (record { items = set (k .items) (k .count) i; count = k .count + 1 })
-    k
+-- The bits of slot i as they stand, with `hover` the node under the pointer.
+unfoldable pub bitsAt : Ui → MaybeId → ℕ → ℕ
+bitsAt u hover i = bitsBy (u .slots) hover (u .interaction .pressed) (u .interaction .focus) i
 
--- Each slot of a list, where it has bits.
-unfoldable pub keptLive : Ui → MaybeId → Kept → List ℕ → Kept
-keptLive u hover k [] = k
-keptLive u hover k (i ∷ is) = keptLive u hover (keptMore k (not (same (bitsAt u hover i) 0)) i) is
+-- Every slot that was stated, from the last, then the nodes hovered, pressed and in focus, wear their bits; those of the three with bits are stated.
+unfoldable pub refreshed : Ui → MaybeId → Ui
+refreshed u hover =
+    let slotOf : MaybeId → List ℕ = liveSlot (limitOf u) (u .slots) in
+    let three = slotOf hover ++ slotOf (u .interaction .pressed) ++ slotOf (u .interaction .focus) in
+    let k = wearAll (poolOf u) (bitsAt u hover) (appearanceOf u) (backwards (statedOf u) ++ three) in
+    withStated (withStyles u (k .layout) (k .states) (k .dirty)) (bearing (bitsAt u hover) [] three)
 
--- A list kept over the front of an array.
-abbrev pub keptAs : List ℕ → List ℕ → Kept
-keptAs l old = record { items = over l old; count = length l }
+-- Slot i gets a base style; it shows where no patch is worn.
+unfoldable pub styledAt : Ui → ℕ → Style → Ui
+styledAt u i style =
+    let s = stateAt (u .states) i in
+    withStyles u
+    (cond (same (s .applied) noPatch) (set (u .layout) i (withStyle (layoutAt (u .layout) i) style)) (u .layout))
+    (set (u .states) i (based s style)) true
 
--- Slots in turn, in an array of 6 with a count.
-abbrev pub inTurn : Turns → List ℕ
-inTurn t = take (t .count) (t .items)
-
--- The slot of an id that is live, as a list of at most one.
-abbrev pub liveSlot : ℕ → Slots → MaybeId → List ℕ
-liveSlot n s Absent = []
-liveSlot n s (Present d) = pick (isLive n s d) (d .index ∷ []) []
+-- Slot i gets a table, and wears what it has for the bits of before.
+unfoldable pub tabledAt : Ui → ℕ → List ℕ → Ui
+tabledAt u i table =
+    let s = stateAt (u .states) i in
+    let k = wear (poolOf u) (record { layout = u .layout; states = set (u .states) i (tabled s table); dirty = u .dirty }) i (s .bits) in
+    withStyles u (k .layout) (k .states) (k .dirty)

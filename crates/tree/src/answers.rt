@@ -58,3 +58,9 @@ pub enum Neighbour {
     Node(NodeId),
     Refused(Refusal),
 }
+
+// Where a read finds a node's field among the eight.
+pub enum FieldPlace {
+    At(u32),
+    Refused(Refusal),
+}

@@ -1,22 +1,18 @@
 // The tree: nodes in numbered slots, their links, styles, tables, boxes and fields, by value.
 pub mod answers;
-pub mod fields;
 pub mod input;
-mod layout;
-pub mod links;
 mod nodes;
 pub mod rules;
 mod start;
-pub mod state;
 pub mod wearing;
 
 ghost use mathlib.Core.Path.{_≡_};
-ghost use Rattle.tree.specs.Answers.{standing, changedOf, insertedOf, rectOf, livenessOf, neighbourOf, fieldTextOf, caretAnswer};
+ghost use Rattle.tree.specs.Answers.{precheck, fieldPlace, changedOf, insertedOf, rectOf, livenessOf, neighbourOf, fieldTextOf, caretAnswer};
 ghost use Rattle.tree.specs.Calls.{newTree, insert, remove, live, rect, firstChild, nextSibling, fieldText, fieldCursor, makeField, takeField, solve, sameView, setStyle, setStateTable, setPatchPool};
-ghost use Rattle.tree.specs.Styles.{sizedStyle};
-ghost use Rattle.tree.specs.Tests.{nothing};
+ghost use Rattle.arithmetic.specs.Tests.{nothing};
 use answers::Caret;
 use answers::Changed;
+use answers::FieldPlace;
 use answers::FieldText;
 use answers::Inserted;
 use answers::Liveness;
@@ -24,6 +20,23 @@ use answers::Neighbour;
 use answers::NewId;
 use answers::NodeRect;
 use answers::TextLength;
+pub use arena::Align;
+pub use arena::Direction;
+pub use arena::Edges;
+pub use arena::LayoutSlot;
+pub use arena::Pointer;
+pub use arena::Rect;
+pub use arena::Size;
+pub use arena::Slot;
+pub use arena::StatePatch;
+pub use arena::StateSlot;
+pub use arena::Style;
+pub use arena::Viewport;
+pub use arena::fields;
+use arena::layout;
+pub use arena::links;
+use arena::nodes::rect_at;
+pub use arena::state;
 use arithmetic::scalar;
 use field::Field;
 use field::MaybeId;
@@ -35,120 +48,6 @@ use text::refusal::Verdict;
 // No neighbour.
 const NIL: u32 = 4294967295;
 
-// Which way a node lays out its children.
-pub enum Direction {
-    Row,
-    Column,
-}
-
-// A width or a height: what the content needs, or a set raw number.
-pub enum Size {
-    Auto,
-    Px(i64),
-}
-
-// Where children sit along an axis that has space left.
-pub enum Align {
-    Start,
-    Center,
-    End,
-}
-
-// Space on each side of a box, raw.
-pub struct Edges {
-    pub left: i64,
-    pub right: i64,
-    pub top: i64,
-    pub bottom: i64,
-}
-
-// All that layout knows of a node, and its background.
-pub struct Style {
-    pub direction: Direction,
-    pub width: Size,
-    pub height: Size,
-    pub margin: Edges,
-    pub padding: Edges,
-    pub gap: i64,
-    pub grow: u32,
-    pub justify: Align,
-    pub align_cross: Align,
-    pub background: [u8; 4],
-}
-
-impl Style {
-    // A new node's style, but for its width and height.
-    pub fn sized(width: Size, height: Size) -> Style
-        ensures { λ r. ⌜ r ≡ sizedStyle width height ⌝ }
-    {
-        let none = Edges {
-            left: 0,
-            right: 0,
-            top: 0,
-            bottom: 0,
-        };
-        Style {
-            direction: Direction::Row,
-            width: width,
-            height: height,
-            margin: none,
-            padding: none,
-            gap: 0,
-            grow: 0,
-            justify: Align::Start,
-            align_cross: Align::Start,
-            background: [0u8; 4],
-        }
-    }
-}
-
-// A box, raw.
-pub struct Rect {
-    pub x: i64,
-    pub y: i64,
-    pub width: i64,
-    pub height: i64,
-}
-
-// A slot's links. Of a dead slot only the next link means something: the free chain's.
-pub struct Slot {
-    pub generation: u64,
-    pub live: bool,
-    pub parent: u32,
-    pub first_child: u32,
-    pub last_child: u32,
-    pub prev_sibling: u32,
-    pub next_sibling: u32,
-}
-
-// A slot's worn style, its box, and the size it wanted in the last pass.
-pub struct LayoutSlot {
-    pub style: Style,
-    pub rect: Rect,
-    pub wanted_width: i64,
-    pub wanted_height: i64,
-}
-
-// A slot's patch numbers by state bits, its base style, the patch worn and the bits it is worn for.
-pub struct StateSlot {
-    pub table: [u16; 16],
-    pub base: Style,
-    pub applied: u16,
-    pub bits: u8,
-}
-
-// A style to be worn, and whether wearing it moves boxes.
-pub struct StatePatch {
-    pub style: Style,
-    pub touches_layout: bool,
-}
-
-// The pointer, in pixels.
-pub struct Pointer {
-    pub x: i32,
-    pub y: i32,
-}
-
 // What the tree remembers between events.
 pub struct Interaction {
     pub pointer: Pointer,
@@ -158,12 +57,6 @@ pub struct Interaction {
     pub decisions: u64,
     pub edit_fold: u64,
     pub overflowed: u64,
-}
-
-// A viewport, raw.
-pub struct Viewport {
-    pub width: i64,
-    pub height: i64,
 }
 
 // The most nodes that a tree holds, its root included.
@@ -233,8 +126,8 @@ impl Ui {
     }
 
     // Whether a call on a node is refused before anything else: the tree is broken, or the node is not live.
-    pub fn standing(self, d: NodeId) -> Verdict
-        ensures { λ r. ⌜ r ≡ standing self d ⌝ }
+    pub fn precheck(self, d: NodeId) -> Verdict
+        ensures { λ r. ⌜ r ≡ precheck self d ⌝ }
     {
         if rules::broken(self) {
             return Verdict::Refused(Refusal::Broken);
@@ -266,11 +159,11 @@ impl Ui {
     pub fn rect(self, d: NodeId) -> NodeRect
         ensures { λ r. ⌜ rectOf r ≡ rect self d .answer ⌝ }
     {
-        match self.standing(d) {
+        match self.precheck(d) {
             Verdict::Refused(word) => NodeRect::Refused(word),
             Verdict::Accepted => {
                 let layout = self.layout;
-                NodeRect::At(nodes::rect_at(layout, d.index))
+                NodeRect::At(rect_at(layout, d.index))
             }
         }
     }
@@ -279,7 +172,7 @@ impl Ui {
     pub fn next_sibling(self, d: NodeId) -> Neighbour
         ensures { λ r. ⌜ neighbourOf r ≡ nextSibling self d .answer ⌝ }
     {
-        match self.standing(d) {
+        match self.precheck(d) {
             Verdict::Refused(word) => Neighbour::Refused(word),
             Verdict::Accepted => {
                 let slots = self.slots;
@@ -309,7 +202,7 @@ impl Ui {
     pub fn insert(self, parent: NodeId) -> Inserted
         ensures { λ r. ⌜ insertedOf r ≡ insert self parent ⌝ }
     {
-        match self.standing(parent) {
+        match self.precheck(parent) {
             Verdict::Refused(word) => {
                 return Inserted {
                     answer: NewId::Refused(word),
@@ -339,7 +232,7 @@ impl Ui {
     pub fn remove(self, d: NodeId) -> Changed
         ensures { λ r. ⌜ changedOf r ≡ remove self d ⌝ }
     {
-        match self.standing(d) {
+        match self.precheck(d) {
             Verdict::Refused(word) => {
                 return Changed {
                     verdict: Verdict::Refused(word),
@@ -362,36 +255,41 @@ impl Ui {
         }
     }
 
+    // Where a read finds the node's field: every read of a field is refused as this is.
+    pub fn field_place(self, d: NodeId) -> FieldPlace
+        ensures { λ r. ⌜ r ≡ fieldPlace self d ⌝ }
+    {
+        match self.precheck(d) {
+            Verdict::Refused(word) => FieldPlace::Refused(word),
+            Verdict::Accepted => {
+                let own = self.fields;
+                match fields::field_place(own, d) {
+                    Place::Nowhere => FieldPlace::Refused(Refusal::Fieldless),
+                    Place::At(i) => FieldPlace::At(i),
+                }
+            }
+        }
+    }
+
     // The text of the node's field, 0 past its length.
     pub fn field_text(self, d: NodeId) -> FieldText
         ensures { λ r. ⌜ fieldTextOf r ≡ fieldText self d .answer ⌝ }
     {
-        match self.standing(d) {
-            Verdict::Refused(word) => {
+        match self.field_place(d) {
+            FieldPlace::Refused(word) => {
                 let none = [0u8; 64];
                 FieldText {
                     answer: TextLength::Refused(word),
                     bytes: none,
                 }
             }
-            Verdict::Accepted => {
+            FieldPlace::At(i) => {
                 let own = self.fields;
-                match fields::field_place(own, d) {
-                    Place::Nowhere => {
-                        let none = [0u8; 64];
-                        FieldText {
-                            answer: TextLength::Refused(Refusal::Fieldless),
-                            bytes: none,
-                        }
-                    }
-                    Place::At(i) => {
-                        let f = fields::field_at(own, i);
-                        let bytes = f.shown();
-                        FieldText {
-                            answer: TextLength::Bytes(f.len),
-                            bytes: bytes,
-                        }
-                    }
+                let f = fields::field_at(own, i);
+                let bytes = f.shown();
+                FieldText {
+                    answer: TextLength::Bytes(f.len),
+                    bytes: bytes,
                 }
             }
         }
@@ -401,17 +299,12 @@ impl Ui {
     pub fn field_cursor(self, d: NodeId) -> Caret
         ensures { λ r. ⌜ caretAnswer r ≡ fieldCursor self d .answer ⌝ }
     {
-        match self.standing(d) {
-            Verdict::Refused(word) => Caret::Refused(word),
-            Verdict::Accepted => {
+        match self.field_place(d) {
+            FieldPlace::Refused(word) => Caret::Refused(word),
+            FieldPlace::At(i) => {
                 let own = self.fields;
-                match fields::field_place(own, d) {
-                    Place::Nowhere => Caret::Refused(Refusal::Fieldless),
-                    Place::At(i) => {
-                        let f = fields::field_at(own, i);
-                        Caret::At(f.cursor)
-                    }
-                }
+                let f = fields::field_at(own, i);
+                Caret::At(f.cursor)
             }
         }
     }
@@ -420,7 +313,7 @@ impl Ui {
     pub fn make_field(self, d: NodeId) -> Changed
         ensures { λ r. ⌜ changedOf r ≡ makeField self d ⌝ }
     {
-        match self.standing(d) {
+        match self.precheck(d) {
             Verdict::Refused(word) => Changed {
                 verdict: Verdict::Refused(word),
                 tree: self,
@@ -496,7 +389,7 @@ impl Ui {
     pub fn set_style(self, d: NodeId, style: Style) -> Changed
         ensures { λ r. ⌜ changedOf r ≡ setStyle self d style ⌝ }
     {
-        match self.standing(d) {
+        match self.precheck(d) {
             Verdict::Refused(word) => Changed {
                 verdict: Verdict::Refused(word),
                 tree: self,
@@ -515,7 +408,7 @@ impl Ui {
     pub fn set_state_table(self, d: NodeId, table: [u16; 16]) -> Changed
         ensures { λ r. ⌜ changedOf r ≡ setStateTable self d table ⌝ }
     {
-        match self.standing(d) {
+        match self.precheck(d) {
             Verdict::Refused(word) => Changed {
                 verdict: Verdict::Refused(word),
                 tree: self,

@@ -2,10 +2,10 @@
 use mathlib.Core.Path.{_≡_, refl, sym, ap, _∙_}
 use Rattle.field.specs.declared.MaybeId.{MaybeId}
 use Rattle.tree.specs.Calls.{guarded}
-use Rattle.tree.specs.Trees.{withHeard}
-use Rattle.tree.proofs.Standings.{few-slots}
+use Rattle.tree.specs.Trees.{withEventParts}
+use Rattle.tree.proofs.Prechecks.{few-slots}
 use Rattle.desk.specs.Events.{handle, handled, hitOf, appliedEvent}
-use Rattle.desk.specs.Parts.{withParts}
+use Rattle.desk.specs.Support.Parts.{withParts}
 use Rattle.desk.proofs.EventLaws.{hit-once, hover-once}
 use borrow.Author.Needs.{needs}
 use Rattle.desk.proofs.handle.Statement.{statement}
@@ -31,7 +31,7 @@ refresh-states-requires : tie.Need-refresh-states-requires
 refresh-states-requires c κs = search needs
 
 returns-2 : tie.Need-returns-2
-unfolding handle guarded handled withHeard
+unfolding handle guarded handled withEventParts
 returns-2 c = let u = c .before .before .before .before .before .before .before .before .before .before .before .args .u in
     let event = c .before .before .before .before .before .before .before .before .before .before .before .args .event in
     let q = c .before .before .before .before .before .before .pointer-after .result in

@@ -3,10 +3,10 @@ use mathlib.Core.Path.{_≡_, sym, ap, _∙_}
 use mathlib.Core.Bool.{false}
 use native.Mathlib.Omega.{arith}
 use Rattle.field.specs.declared.MaybeId.the-variants.{Present}
-use Rattle.tree.specs.Rules.{broken}
+use Rattle.tree.specs.Broken.{broken}
 use Rattle.tree.specs.Calls.{gives, guarded}
 use Rattle.tree.specs.declared.Ui.{Ui}
-use Rattle.tree.proofs.Standings.{few-slots, few-waiting}
+use Rattle.tree.proofs.Prechecks.{few-slots, few-waiting}
 use Rattle.desk.specs.Events.{takeOldest, nextOutput}
 use borrow.Author.Needs.{needs}
 use Rattle.desk.proofs.next_output.Statement.{statement}

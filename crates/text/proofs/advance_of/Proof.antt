@@ -1,9 +1,9 @@
 -- A code of 32 to 126 is an index of the table, and the table is the definition's. Assumes nothing.
 use native.Mathlib.Omega.{arith}
 use borrow.Author.Needs.{needs}
-use Rattle.text.specs.Choice.{within}
+use Rattle.arithmetic.specs.Tests.{within}
 use Rattle.text.specs.Advance.{advanceOf, advances}
-use Rattle.text.proofs.Picks.{within-low, within-high}
+use Rattle.arithmetic.proofs.BoolLaws.{within-low, within-high}
 use Rattle.text.proofs.advance_of.Statement.{statement}
 use Rattle.text.proofs.advance_of.Tie as tie
 

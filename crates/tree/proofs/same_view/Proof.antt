@@ -1,8 +1,8 @@
 -- Width and height are compared by their bits. Assumes nothing.
 use mathlib.Core.Path.{ap₂}
-use mathlib.Core.Bool.{Bool, _&&_}
+use mathlib.Core.Bool.{_&&_}
 use borrow.Author.Needs.{needs}
-use Rattle.tree.proofs.Raws.{same-by-bits}
+use Rattle.arena.proofs.Styles.Raws.{same-by-bits}
 use Rattle.tree.proofs.same_view.Statement.{statement}
 use Rattle.tree.proofs.same_view.Tie as tie
 

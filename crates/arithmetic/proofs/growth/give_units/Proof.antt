@@ -9,7 +9,7 @@ use lib.ListN.{getD}
 use mir.Syntax.{w64}
 use mir.Val.{SFits, toZ, ofZ}
 use mir.Facts.{toZ-ofZ}
-use Rattle.arithmetic.specs.Steps.{withUnit}
+use Rattle.arithmetic.specs.Support.Steps.{withUnit}
 use Rattle.arithmetic.proofs.GrowthPicks.{Picked, picked-at-first, pick-is-new, picked-once-more}
 use Rattle.arithmetic.proofs.Sums.{list-is-table}
 use Rattle.arithmetic.proofs.growth.give_units.Statement.{statement}

@@ -7,7 +7,7 @@ use native.Mathlib.Omega.{arith}
 use borrow.Author.Needs.{needs}
 use mir.Syntax.{w64}
 use mir.Val.{Fits}
-use Rattle.arithmetic.specs.Steps.{Divisible}
+use Rattle.arithmetic.specs.Support.Steps.{Divisible}
 use Rattle.arithmetic.proofs.growth.mul_div.Statement.{statement}
 use Rattle.arithmetic.proofs.growth.mul_div.Tie as tie
 

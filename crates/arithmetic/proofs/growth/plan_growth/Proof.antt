@@ -13,7 +13,7 @@ use mir.Val.{SFits}
 use mir.Facts.{toZ-ofZ, fits-natAbs}
 use Rattle.arithmetic.specs.Growth.{table, growSum}
 use Rattle.arithmetic.specs.declared.growth.Parts.{Parts}
-use Rattle.arithmetic.specs.Steps.{PartsOf}
+use Rattle.arithmetic.specs.Support.Steps.{PartsOf}
 use Rattle.arithmetic.proofs.GrowthPlans.{plan-of-no-leftover, plan-of-no-grow, parts-have-room, plan-by-parts}
 use Rattle.arithmetic.proofs.growth.plan_growth.Statement.{statement}
 use Rattle.arithmetic.proofs.growth.plan_growth.Tie as tie

@@ -3,8 +3,8 @@ use mathlib.Core.Path.{_≡_, sym, ap, _∙_}
 use lib.ListN.{set}
 use Rattle.tree.specs.Fields.{owns, changeFirst}
 use Rattle.tree.specs.Places.{placeOf}
-use Rattle.tree.specs.Trees.{withInteraction, withFields, withHeard}
-use Rattle.tree.specs.declared.fields.Place.the-variants.{At}
+use Rattle.tree.specs.Trees.{withInteraction, withFields, withEventParts}
+use Rattle.tree.specs.Types.{At}
 use Rattle.tree.proofs.Places.{the-place-is-changed}
 use Rattle.desk.specs.Events.{keyedField, editFold}
 use borrow.Author.Needs.{needs}
@@ -36,11 +36,11 @@ folded-requires : tie.Need-folded-requires
 folded-requires c κs = search needs
 
 returns : tie.Need-returns
-unfolding withHeard
+unfolding withEventParts
 returns c w = rw (← (c .before .before .field-place .ensures .1), c .enum-told .given .1)
 
 returns-2 : tie.Need-returns-2
-unfolding withInteraction withFields withHeard editFold
+unfolding withInteraction withFields withEventParts editFold
 returns-2 c w = let p = c .before .before .before .before .before .before .before .before .before .before .before .args .p in
     let d = c .before .before .before .before .before .before .before .before .before .before .before .args .d in
     let key = c .before .before .before .before .before .before .before .before .before .before .before .args .key in

@@ -1,6 +1,6 @@
 -- By whether there is a focus. Assumes nothing.
 use mathlib.Core.Path.{sym, ap, _∙_}
-use Rattle.desk.specs.Parts.{hasLive}
+use Rattle.desk.specs.Support.Parts.{hasLive}
 use borrow.Author.Needs.{needs}
 use Rattle.desk.proofs.events.focused.Statement.{statement}
 use Rattle.desk.proofs.events.focused.Tie as tie

@@ -1,6 +1,6 @@
 -- The code is the definition. Assumes nothing.
 use mathlib.Core.Path.{refl}
-use Rattle.tree.specs.Tests.{same}
+use Rattle.arithmetic.specs.Tests.{same}
 use Rattle.desk.proofs.events.has_changed.Statement.{statement}
 use Rattle.desk.proofs.events.has_changed.Tie as tie
 

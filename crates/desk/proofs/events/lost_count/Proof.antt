@@ -1,5 +1,5 @@
 -- By its test. Assumes nothing.
-use Rattle.tree.specs.Tests.{same}
+use Rattle.arithmetic.specs.Tests.{same}
 use borrow.Author.Tests.{ne-eqb}
 use borrow.Author.Needs.{needs}
 use Rattle.desk.proofs.events.lost_count.Statement.{statement}

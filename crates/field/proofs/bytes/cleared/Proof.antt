@@ -1,7 +1,6 @@
 -- What is cleared so far is a paste of zeros. Assumes nothing.
 use mathlib.Core.Path.{_≡_, _∙_}
-use Prim.Native.Nat.{max}
-use Prim.Native.Nat.{_-_, _≤_}
+use Prim.Native.Nat.{max, _-_, _≤_}
 use native.Mathlib.Omega.{arith}
 use borrow.Author.Needs.{needs}
 use lib.ListN.{length}

@@ -5,8 +5,7 @@ use native.Mathlib.Omega.{arith}
 use borrow.Author.Needs.{needs}
 use lib.Seq.{paste}
 use lib.ListN.{length, drop}
-use Rattle.field.proofs.Moves.{up-turn}
-use Rattle.field.proofs.Moves.{up-none}
+use Rattle.field.proofs.Moves.{up-turn, up-none}
 use Rattle.field.proofs.bytes.opened.Statement.{statement}
 use Rattle.field.proofs.bytes.opened.Tie as tie
 

@@ -1,6 +1,6 @@
 -- The code's test is `within`. Assumes nothing.
 use mathlib.Core.Path.{refl}
-use Rattle.text.specs.Choice.{within}
+use Rattle.arithmetic.specs.Tests.{within}
 use Rattle.field.proofs.metres.is_digit.Statement.{statement}
 use Rattle.field.proofs.metres.is_digit.Tie as tie
 

@@ -8,8 +8,8 @@ use borrow.Author.Tests.{eq-eqb, ne-eqb, not-true, not-false}
 use borrow.Author.Needs.{needs}
 use lib.ListN.{length, drop}
 use Rattle.text.proofs.Walks.{front-not-longer}
-use Rattle.text.proofs.Picks.{within-low, within-high}
-use Rattle.text.specs.Choice.{within}
+use Rattle.arithmetic.proofs.BoolLaws.{within-low, within-high}
+use Rattle.arithmetic.specs.Tests.{within}
 use Rattle.field.specs.Metres.{isDigit, behind, metresOf}
 use Rattle.field.proofs.metres.metres_of.Statement.{statement}
 use Rattle.field.proofs.metres.metres_of.Tie as tie

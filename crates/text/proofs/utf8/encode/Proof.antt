@@ -2,7 +2,7 @@
 use native.Mathlib.Omega.{arith}
 use borrow.Author.Tests.{not-true, not-false}
 use borrow.Author.Needs.{needs}
-use Rattle.text.specs.Choice.{within}
+use Rattle.arithmetic.specs.Tests.{within}
 use Rattle.text.specs.Utf8.{encodedAs, isScalar}
 use Rattle.text.proofs.Scalars.{scalar-top, encoded-one, encoded-two, encoded-three, encoded-four}
 use Rattle.text.proofs.utf8.encode.Statement.{statement}

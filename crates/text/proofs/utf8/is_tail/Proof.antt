@@ -1,6 +1,6 @@
 -- The code's test is `within`. Assumes nothing.
 use mathlib.Core.Path.{refl}
-use Rattle.text.specs.Choice.{within}
+use Rattle.arithmetic.specs.Tests.{within}
 use Rattle.text.proofs.utf8.is_tail.Statement.{statement}
 use Rattle.text.proofs.utf8.is_tail.Tie as tie
 

@@ -1,7 +1,8 @@
--- A return for each line of the grammar: the tests that led there pick the same line of `leadOf`. Assumes nothing.
+-- A return for each line of the grammar: the tests that led there cond the same line of `leadOf`. Assumes nothing.
+use mathlib.Core.Bool.{cond}
 use mathlib.Core.Path.{_∙_}
 use borrow.Author.Tests.{le-leb, lt-leb, eq-eqb, ne-eqb}
-use Rattle.text.specs.Choice.{within}
+use Rattle.arithmetic.specs.Tests.{within}
 use Rattle.text.specs.Reader.{leadOf}
 use borrow.Author.Needs.{needs}
 use Rattle.text.proofs.utf8.lead.Statement.{statement}

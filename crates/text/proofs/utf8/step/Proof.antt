@@ -1,9 +1,10 @@
--- The two tests pick the same case of `stepOf`. Assumes nothing.
+-- The two tests cond the same case of `stepOf`. Assumes nothing.
+use mathlib.Core.Bool.{cond}
 use mathlib.Core.Path.{_∙_}
 use borrow.Author.Tests.{eq-eqb, ne-eqb}
 use borrow.Author.Needs.{needs}
 use Rattle.text.specs.Reader.{stepOf}
-use Rattle.text.specs.Choice.{within}
+use Rattle.arithmetic.specs.Tests.{within}
 use Rattle.text.proofs.utf8.step.Statement.{statement}
 use Rattle.text.proofs.utf8.step.Tie as tie
 

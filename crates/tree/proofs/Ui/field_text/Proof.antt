@@ -1,29 +1,19 @@
--- By the standing of the node and the place of its field. Assumes nothing.
+-- By where the read finds the field. Assumes nothing.
 use mathlib.Core.Path.{sym, ap, _∙_}
-use Rattle.tree.proofs.Standings.{refused-at-once}
-use Rattle.tree.proofs.TakenLaws.{without-a-field, with-a-field}
-use Rattle.text.specs.Refusal.{accepted}
-use Rattle.tree.specs.Calls.{Outcome, Shown, onField, fieldText}
 use mathlib.Core.List.{List}
 use Prim.Native.Nat.{ℕ}
+use Rattle.text.specs.Refusal.{accepted}
+use Rattle.tree.specs.Calls.{Outcome, Shown, fieldText}
+use Rattle.tree.proofs.TakenLaws.{a-read-is-refused, a-read-finds-the-field}
 use borrow.Author.Needs.{needs}
 use Rattle.tree.proofs.Ui.field_text.Statement.{statement}
 use Rattle.tree.proofs.Ui.field_text.Tie as tie
 
-standing-requires : tie.Need-standing-requires
-standing-requires c κs = search needs
-
-enum-known-word : tie.Need-enum-known-word
-enum-known-word c = search needs
-
-enum-told : tie.Need-enum-told
-enum-told c = search needs
-
 field-place-requires : tie.Need-field-place-requires
 field-place-requires c κs = search needs
 
-enum-told-2 : tie.Need-enum-told-2
-enum-told-2 c = search needs
+enum-known-word : tie.Need-enum-known-word
+enum-known-word c = search needs
 
 enum-known-i : tie.Need-enum-known-i
 enum-known-i c = search needs
@@ -35,29 +25,21 @@ shown-requires : tie.Need-shown-requires
 shown-requires c κs = search needs
 
 returns : tie.Need-returns
-unfolding fieldText onField
-returns c = ap (λ (o : Outcome Shown). o .answer) (refused-at-once _ _ _ _ _ (sym (c .before .before .before .standing .ensures) ∙ c .before .word .given .1))
+unfolding fieldText
+returns c = ap (λ (o : Outcome Shown). o .answer) (a-read-is-refused (c .before .before .before .before .args .self) (c .before .before .before .before .args .d) _ _ _ (sym (c .before .before .before .field-place .ensures) ∙ c .before .word .given .1))
 
 returns-2 : tie.Need-returns-2
 unfolding fieldText
-returns-2 c = ap (λ (o : Outcome Shown). o .answer) (without-a-field (c .before .before .before .before .before .before .before .args .self) (c .before .before .before .before .before .before .before .args .d) (c .before .before .field-place .ensures .1) (sym (c .before .before .before .before .before .before .standing .ensures) ∙ c .before .before .before .before .enum-told .given .1) _ _ (c .enum-told2 .given .1))
-
-returns-3 : tie.Need-returns-3
-unfolding fieldText
-returns-3 c = ap (λ (b : List ℕ). accepted (record { bytes = b; len = c .before .field-at .result .len })) (c .shown .ensures) ∙ ap (λ (o : Outcome Shown). o .answer) (with-a-field (c .before .before .before .before .before .before .before .before .before .before .args .self) (c .before .before .before .before .before .before .before .before .before .before .args .d) (c .before .before .before .before .before .field-place .ensures .1) (sym (c .before .before .before .before .before .before .before .before .before .standing .ensures) ∙ c .before .before .before .before .before .before .before .enum-told .given .1) _ _ (c .before .before .before .i .given .1) (c .before .field-at .ensures))
+returns-2 c = ap (λ (b : List ℕ). accepted (record { bytes = b; len = c .before .field-at .result .len })) (c .shown .ensures) ∙ ap (λ (o : Outcome Shown). o .answer) (a-read-finds-the-field (c .before .before .before .before .before .before .before .args .self) (c .before .before .before .before .before .before .before .args .d) _ _ _ (sym (c .before .before .before .before .before .before .field-place .ensures) ∙ c .before .before .before .before .i .given .1) (c .before .field-at .ensures))
 
 pub field-text-spec : {M : Type 1} → statement M
 field-text-spec =
     tie.close
     (tie.spec
-    standing-requires
-    enum-known-word
-    enum-told
     field-place-requires
-    enum-told-2
+    enum-known-word
     enum-known-i
     field-at-requires
     shown-requires
     returns
-    returns-2
-    returns-3)
+    returns-2)

@@ -1,14 +1,14 @@
--- By the standing of the node and the place of its field. Assumes nothing.
-use mathlib.Core.Path.{sym, ap, _∙_}
-use Rattle.tree.proofs.Standings.{refused-at-once}
+-- By the precheck of the node and the place of its field. Assumes nothing.
+use mathlib.Core.Path.{sym, _∙_}
+use Rattle.tree.proofs.Prechecks.{refused-at-once}
 use Rattle.tree.proofs.TakenLaws.{a-field-to-take, a-field-to-keep}
 use Rattle.tree.specs.Calls.{makeField}
 use borrow.Author.Needs.{needs}
 use Rattle.tree.proofs.Ui.make_field.Statement.{statement}
 use Rattle.tree.proofs.Ui.make_field.Tie as tie
 
-standing-requires : tie.Need-standing-requires
-standing-requires c κs = search needs
+precheck-requires : tie.Need-precheck-requires
+precheck-requires c κs = search needs
 
 enum-known-word : tie.Need-enum-known-word
 enum-known-word c = search needs
@@ -30,19 +30,19 @@ take-field-requires c κs = search needs
 
 returns : tie.Need-returns
 unfolding makeField
-returns c = refused-at-once _ _ _ _ _ (sym (c .before .before .before .standing .ensures) ∙ c .before .word .given .1)
+returns c = refused-at-once _ _ _ _ _ (sym (c .before .before .before .precheck .ensures) ∙ c .before .word .given .1)
 
 returns-2 : tie.Need-returns-2
-returns-2 c = a-field-to-keep (c .before .before .before .before .before .before .before .before .args .self) (c .before .before .before .before .before .before .before .before .args .d) (c .before .before .before .field-place .ensures .1) (sym (c .before .before .before .before .before .before .before .standing .ensures) ∙ c .before .before .before .before .before .enum-told .given .1) (c .before .i .given .1)
+returns-2 c = a-field-to-keep (c .before .before .before .before .before .before .before .before .args .self) (c .before .before .before .before .before .before .before .before .args .d) (c .before .before .before .field-place .ensures .1) (sym (c .before .before .before .before .before .before .before .precheck .ensures) ∙ c .before .before .before .before .before .enum-told .given .1) (c .before .i .given .1)
 
 returns-3 : tie.Need-returns-3
-returns-3 c = c .take-field .ensures ∙ a-field-to-take (c .before .before .before .before .before .before .before .before .args .self) (c .before .before .before .before .before .before .before .before .args .d) (c .before .before .before .field-place .ensures .1) (sym (c .before .before .before .before .before .before .before .standing .ensures) ∙ c .before .before .before .before .before .enum-told .given .1) (c .before .enum-told2 .given .1)
+returns-3 c = c .take-field .ensures ∙ a-field-to-take (c .before .before .before .before .before .before .before .before .args .self) (c .before .before .before .before .before .before .before .before .args .d) (c .before .before .before .field-place .ensures .1) (sym (c .before .before .before .before .before .before .before .precheck .ensures) ∙ c .before .before .before .before .before .enum-told .given .1) (c .before .enum-told2 .given .1)
 
 pub make-field-spec : {M : Type 1} → statement M
 make-field-spec =
     tie.close
     (tie.spec
-    standing-requires
+    precheck-requires
     enum-known-word
     enum-told
     field-place-requires

@@ -2,7 +2,7 @@
 use borrow.Author.Needs.{needs}
 use borrow.Author.Tests.{lt-ltb, le-ltb}
 use Rattle.tree.specs.Calls.{newTree}
-use Rattle.tree.proofs.TestLaws.{same-yes, same-no}
+use Rattle.arithmetic.proofs.TestLaws.{same-yes, same-no}
 use Rattle.tree.proofs.Ui.new.Statement.{statement}
 use Rattle.tree.proofs.Ui.new.Tie as tie
 

@@ -1,16 +1,15 @@
--- By the standing of the node. Assumes nothing.
+-- By the precheck of the node. Assumes nothing.
 use mathlib.Core.Path.{sym, ap, _∙_}
-use Rattle.field.specs.declared.MaybeId.{MaybeId}
-use Rattle.text.specs.Refusal.{Answer, accepted}
+use Rattle.text.specs.Refusal.{accepted}
 use Rattle.tree.specs.Calls.{Outcome, rect}
-use Rattle.tree.specs.declared.Rect.{Rect}
-use Rattle.tree.proofs.Standings.{refused-at-once, not-refused}
+use Rattle.arena.specs.declared.Rect.{Rect}
+use Rattle.tree.proofs.Prechecks.{refused-at-once, not-refused}
 use borrow.Author.Needs.{needs}
 use Rattle.tree.proofs.Ui.rect.Statement.{statement}
 use Rattle.tree.proofs.Ui.rect.Tie as tie
 
-standing-requires : tie.Need-standing-requires
-standing-requires c κs = search needs
+precheck-requires : tie.Need-precheck-requires
+precheck-requires c κs = search needs
 
 enum-known-word : tie.Need-enum-known-word
 enum-known-word c = search needs
@@ -23,13 +22,13 @@ rect-at-requires c κs = search needs
 
 returns : tie.Need-returns
 unfolding rect
-returns c = ap (λ (o : Outcome Rect). o .answer) (refused-at-once _ _ _ _ _ (sym (c .before .before .before .standing .ensures) ∙ c .before .word .given .1))
+returns c = ap (λ (o : Outcome Rect). o .answer) (refused-at-once _ _ _ _ _ (sym (c .before .before .before .precheck .ensures) ∙ c .before .word .given .1))
 
 returns-2 : tie.Need-returns-2
 unfolding rect
-returns-2 c = ap (λ (r : Rect). accepted r) (c .rect-at .ensures) ∙ ap (λ (o : Outcome Rect). o .answer) (not-refused (c .before .before .before .before .before .args .self) (c .before .before .before .before .before .args .d) _ _ (sym (c .before .before .before .before .standing .ensures) ∙ c .before .before .enum-told .given .1))
+returns-2 c = ap (λ (r : Rect). accepted r) (c .rect-at .ensures) ∙ ap (λ (o : Outcome Rect). o .answer) (not-refused (c .before .before .before .before .before .args .self) (c .before .before .before .before .before .args .d) _ _ (sym (c .before .before .before .before .precheck .ensures) ∙ c .before .before .enum-told .given .1))
 
 pub rect-spec : {M : Type 1} → statement M
 rect-spec =
     tie.close
-    (tie.spec standing-requires enum-known-word enum-told rect-at-requires returns returns-2)
+    (tie.spec precheck-requires enum-known-word enum-told rect-at-requires returns returns-2)

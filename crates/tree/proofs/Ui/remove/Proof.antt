@@ -1,8 +1,9 @@
--- By the standing of the node and the test of the root. Assumes nothing.
-use mathlib.Core.Path.{_≡_, sym, ap, ap₂, _∙_}
-use Rattle.tree.specs.Tests.{pick, same}
-use Rattle.tree.proofs.Standings.{refused-at-once, not-refused}
-use Rattle.tree.proofs.TestLaws.{same-yes, same-no}
+-- By the precheck of the node and the test of the root. Assumes nothing.
+use mathlib.Core.Bool.{cond}
+use mathlib.Core.Path.{_≡_, sym, ap, _∙_}
+use Rattle.arithmetic.specs.Tests.{same}
+use Rattle.tree.proofs.Prechecks.{refused-at-once, not-refused}
+use Rattle.arithmetic.proofs.TestLaws.{same-yes, same-no}
 use Prim.Native.Nat.{ℕ}
 use Rattle.text.specs.declared.refusal.Refusal.the-variants.{Root}
 use Rattle.tree.specs.Calls.{Outcome, gives, refuses, remove, removeAt}
@@ -11,15 +12,15 @@ use borrow.Author.Needs.{needs}
 use Rattle.tree.proofs.Ui.remove.Statement.{statement}
 use Rattle.tree.proofs.Ui.remove.Tie as tie
 
-standing-requires : tie.Need-standing-requires
-standing-requires c κs = search needs
+precheck-requires : tie.Need-precheck-requires
+precheck-requires c κs = search needs
 
 enum-known-word : tie.Need-enum-known-word
 enum-known-word c = search needs
 
 returns : tie.Need-returns
 unfolding remove
-returns c = refused-at-once _ _ _ _ _ (sym (c .before .before .before .standing .ensures) ∙ c .before .word .given .1)
+returns c = refused-at-once _ _ _ _ _ (sym (c .before .before .before .precheck .ensures) ∙ c .before .word .given .1)
 
 enum-told : tie.Need-enum-told
 enum-told c = search needs
@@ -29,9 +30,9 @@ unfolding remove
 returns-2 c =
     let u = c .before .before .before .before .before .args .self in
     let d = c .before .before .before .before .before .args .d in
-    let o : Outcome ℕ = pick (same (d .index) 0) (refuses u Root 0) (gives (removeAt u (d .index)) 0) in
+    let o : Outcome ℕ = cond (same (d .index) 0) (refuses u Root 0) (gives (removeAt u (d .index)) 0) in
     let p : refuses u Root 0 ≡ o = rw (same-yes _ _ (c .if1 .taken)) in
-    p ∙ not-refused u d 0 o (sym (c .before .before .before .before .standing .ensures) ∙ c .before .before .enum-told .given .1)
+    p ∙ not-refused u d 0 o (sym (c .before .before .before .before .precheck .ensures) ∙ c .before .before .enum-told .given .1)
 
 remove-at-requires : tie.Need-remove-at-requires
 remove-at-requires c κs = search needs
@@ -41,15 +42,15 @@ unfolding remove
 returns-3 c =
     let u = c .before .before .before .before .before .before .args .self in
     let d = c .before .before .before .before .before .before .args .d in
-    let o : Outcome ℕ = pick (same (d .index) 0) (refuses u Root 0) (gives (removeAt u (d .index)) 0) in
+    let o : Outcome ℕ = cond (same (d .index) 0) (refuses u Root 0) (gives (removeAt u (d .index)) 0) in
     let p : gives (c .remove-at .result) 0 ≡ o = rw (same-no _ _ (c .before .if1 .left)) (ap (λ (v : Ui). gives v 0) (c .remove-at .ensures)) in
-    p ∙ not-refused u d 0 o (sym (c .before .before .before .before .before .standing .ensures) ∙ c .before .before .before .enum-told .given .1)
+    p ∙ not-refused u d 0 o (sym (c .before .before .before .before .before .precheck .ensures) ∙ c .before .before .before .enum-told .given .1)
 
 pub remove-spec : {M : Type 1} → statement M
 remove-spec =
     tie.close
     (tie.spec
-    standing-requires
+    precheck-requires
     enum-known-word
     returns
     enum-told

@@ -4,9 +4,9 @@ use Rattle.tree.proofs.TakenLaws.{none-free, some-free}
 use mathlib.Core.Bool.{true, false, not}
 use mathlib.Core.List.{List}
 use Rattle.field.specs.declared.Field.{Field}
-use Rattle.tree.specs.Tests.{all}
+use Rattle.arithmetic.specs.Tests.{all}
 use Rattle.tree.specs.Trees.{limitOf, withFields}
-use Rattle.tree.specs.Fields.{vacant, reclaimed, claimed}
+use Rattle.arena.specs.Fields.{vacant, reclaimed, claimed}
 use Rattle.tree.specs.Calls.{gives, takeVacant}
 use borrow.Author.Needs.{needs}
 use Rattle.tree.proofs.Ui.take_field.Statement.{statement}

@@ -1,6 +1,5 @@
 -- By the test of the link. Assumes nothing.
-use mathlib.Core.Path.{ap}
-use Rattle.tree.proofs.TestLaws.{same-yes, same-no}
+use Rattle.arithmetic.proofs.TestLaws.{same-yes, same-no}
 use borrow.Author.Needs.{needs}
 use Rattle.tree.proofs.nodes.neighbour.Statement.{statement}
 use Rattle.tree.proofs.nodes.neighbour.Tie as tie

@@ -1,6 +1,6 @@
 -- Each part by its contract. Assumes nothing.
 use Rattle.tree.specs.Calls.{removeAt}
-use Rattle.tree.specs.Slots.{freeing}
+use Rattle.arena.specs.Slots.{freeing}
 use Rattle.tree.specs.Trees.{withNodes}
 use borrow.Author.Needs.{needs}
 use Rattle.tree.proofs.nodes.remove_at.Statement.{statement}
@@ -21,12 +21,12 @@ reset-states-requires c κs = search needs
 listed-count-requires : tie.Need-listed-count-requires
 listed-count-requires c κs = search needs
 
-less-requires : tie.Need-less-requires
-less-requires c κs = search needs
+saturating-sub-requires : tie.Need-saturating-sub-requires
+saturating-sub-requires c κs = search needs
 
 returns : tie.Need-returns
 unfolding removeAt withNodes freeing
-returns c = rw (c .less .ensures, c .before .listed-count .ensures, c .before .before .reset-states .ensures, c .before .before .before .before .free-listed .ensures .0, c .before .before .before .before .free-listed .ensures .1, c .before .before .before .before .before .freed-order .ensures .1, c .before .before .before .before .before .before .unlink .ensures)
+returns c = rw (c .saturating-sub .ensures, c .before .listed-count .ensures, c .before .before .reset-states .ensures, c .before .before .before .before .free-listed .ensures .0, c .before .before .before .before .free-listed .ensures .1, c .before .before .before .before .before .freed-order .ensures .1, c .before .before .before .before .before .before .unlink .ensures)
 
 pub remove-at-spec : {M : Type 1} → statement M
 remove-at-spec =
@@ -37,5 +37,5 @@ remove-at-spec =
     free-listed-requires
     reset-states-requires
     listed-count-requires
-    less-requires
+    saturating-sub-requires
     returns)

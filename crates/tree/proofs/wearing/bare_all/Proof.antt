@@ -5,21 +5,19 @@ use borrow.Author.Needs.{needs}
 use borrow.Author.Tests.{eq-eqb, ne-eqb}
 use Prim.Native.Nat.{_-_, _≤_}
 use lib.ListN.{length, length-map, length-set}
-use Rattle.tree.specs.Tests.{same, fromTo}
-use Rattle.tree.specs.Styles.{stateAt, layoutAt}
-use Rattle.tree.specs.Trees.{withLooks}
-use Rattle.tree.specs.States.{bareAll, looksOf}
-use Rattle.tree.specs.Wearing.{looking}
+use Rattle.arithmetic.specs.Tests.{same, fromTo}
+use Rattle.arena.specs.Styles.{stateAt, layoutAt}
+use Rattle.tree.specs.Trees.{withStyles}
+use Rattle.arena.specs.States.{bareAll}
+use Rattle.tree.specs.Wearing.{appearanceOf, withAppearance}
 use Rattle.tree.proofs.Wearings.{bare-start, bare-more, bare-done, bared-outside, bared-as-it-is, bared-anew}
 use Rattle.tree.proofs.wearing.bare_all.Statement.{statement}
 use Rattle.tree.proofs.wearing.bare_all.Tie as tie
 use Rattle.tree.proofs.wearing.bare_all.Reads as reads
 use Rattle.tree.proofs.wearing.bare_all.Lts as lts
-use Rattle.tree.proofs.wearing.bare.Reads as bare-reads
-use Rattle.tree.proofs.wearing.styled.Reads as styled-reads
 
 abbrev Inv-loop : tie.InvT-loop
-Inv-loop limit out₀ i₀ out i = (i ≤ limit) × (length (out .layout) ≡ 128) × (length (out .states) ≡ 128) × (looking out (bareAll (looksOf out) (fromTo i (limit - i))) ≡ looking out₀ (bareAll (looksOf out₀) (fromTo 0 limit)))
+Inv-loop limit out₀ i₀ out i = (i ≤ limit) × (length (out .layout) ≡ 128) × (length (out .states) ≡ 128) × (withAppearance out (bareAll (appearanceOf out) (fromTo i (limit - i))) ≡ withAppearance out₀ (bareAll (appearanceOf out₀) (fromTo 0 limit)))
 
 abbrev μ-loop : tie.MeasureT-loop
 μ-loop limit out₀ i₀ out i = limit - i
@@ -37,7 +35,7 @@ loop-less : tie.Need-loop-less Inv-loop μ-loop
 loop-less c = search needs
 
 loop-again : tie.Need-loop-again Inv-loop μ-loop
-unfolding withLooks
+unfolding withStyles
 loop-again c =
     let l = c .before .before .loop in (
       omega (arith, c .before .loop-test .taken),
@@ -68,7 +66,7 @@ loop-less-2 : tie.Need-loop-less-2 Inv-loop μ-loop
 loop-less-2 c = search needs
 
 loop-again-2 : tie.Need-loop-again-2 Inv-loop μ-loop
-unfolding stateAt same withLooks
+unfolding stateAt same withStyles
 loop-again-2 c =
     let l = c .before .before .before .before .before .before .before .loop in (
       omega (arith, c .before .before .before .before .before .before .loop-test .taken),
@@ -96,7 +94,7 @@ loop-less-3 : tie.Need-loop-less-3 Inv-loop μ-loop
 loop-less-3 c = search needs
 
 loop-again-3 : tie.Need-loop-again-3 Inv-loop μ-loop
-unfolding stateAt layoutAt same withLooks
+unfolding stateAt layoutAt same withStyles
 loop-again-3 c =
     let l = c .before .before .before .before .before .before .before .before .before .loop in (
       omega (arith, c .before .before .before .before .before .before .before .before .loop-test .taken),

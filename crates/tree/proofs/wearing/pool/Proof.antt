@@ -1,7 +1,7 @@
 -- Each part by its contract. Assumes nothing.
 use Rattle.tree.specs.Calls.{pooled}
-use Rattle.tree.specs.Trees.{withLooks, withPool}
-use Rattle.tree.specs.Wearing.{looking}
+use Rattle.tree.specs.Trees.{withStyles, withPool}
+use Rattle.tree.specs.Wearing.{withAppearance}
 use mathlib.Core.Path.{ap}
 use Rattle.tree.specs.declared.Ui.{Ui}
 use borrow.Author.Needs.{needs}
@@ -12,7 +12,7 @@ bare-all-requires : tie.Need-bare-all-requires
 bare-all-requires c κs = search needs
 
 returns : tie.Need-returns
-unfolding pooled withPool looking withLooks
+unfolding pooled withPool withAppearance withStyles
 returns c = ap (λ (x : Ui). withPool x (c .before .before .args .patches) (c .before .before .args .count)) (c .bare-all .ensures)
 
 pub pool-spec : {M : Type 1} → statement M

@@ -1,41 +1,30 @@
 -- The looks after the first j in turn. Assumes nothing.
 use mathlib.Core.Path.{_≡_, refl, sym, ap, _∙_}
-use Prim.Native.Nat.{ℕ, _+_, _-_, _≤_, _<_}
+use Prim.Native.Nat.{_-_, _≤_, _<_}
 use native.Mathlib.Omega.{arith}
 use borrow.Author.Needs.{needs, scaled-fits}
 use borrow.Author.Tests.{eq-eqb, ne-eqb}
 use lib.ListN.{length, getD, take, length-map}
 use lib.Dec.{lit<}
-use lib.Seq.{length-take-le}
-use Rattle.tree.specs.Slots.{at}
-use Rattle.tree.specs.Tests.{same}
+use lib.Seq.{length-take-le, getD-take}
+use Rattle.arena.specs.Slots.{at}
+use Rattle.arithmetic.specs.Tests.{same}
 use Rattle.tree.specs.Calls.{gives}
-use Rattle.tree.specs.States.{bitsAt}
-use Rattle.tree.specs.Styles.{noPatch, layoutAt, stateAt}
-use Rattle.tree.specs.Trees.{withLooks}
-use Rattle.tree.specs.Wearing.{looking}
+use Rattle.tree.specs.Wearing.{bitsAt, withAppearance}
+use Rattle.arena.specs.Styles.{noPatch, layoutAt, stateAt}
+use Rattle.tree.specs.Trees.{withStyles}
 use Rattle.tree.specs.declared.Ui.{Ui}
-use Rattle.tree.proofs.CheckLaws.{front-at}
-use Rattle.tree.proofs.Keeps.{refreshed-whole}
-use Rattle.tree.proofs.Wearings.{lookAfter, look-first, look-last, look-same, look-other, look-past, look-lengths, look-slots, look-pools, look-style, bits-there}
+use Rattle.tree.proofs.Wearings.{refreshed-whole, lookAfter, look-first, look-last, look-same, look-other, look-past, look-lengths, look-slots, look-pools, look-style, bits-there}
 use Rattle.tree.proofs.wearing.refresh_states.Statement.{statement}
 use Rattle.tree.proofs.wearing.refresh_states.Tie as tie
 use Rattle.tree.proofs.wearing.refresh_states.Reads as reads
 use Rattle.tree.proofs.wearing.refresh_states.Lts as lts
-use Rattle.tree.proofs.state.entry_of.Reads as entry-of-reads
-use Rattle.tree.proofs.state.patch_style.Reads as patch-style-reads
-use Rattle.tree.proofs.state.touches.Reads as touches-reads
-use Rattle.tree.proofs.wearing.bits_in.Reads as bits-in-reads
-use Rattle.tree.proofs.wearing.in_turn.Reads as in-turn-reads
-use Rattle.tree.proofs.wearing.restated.Reads as restated-reads
-use Rattle.tree.proofs.wearing.styled.Reads as styled-reads
-use Rattle.tree.proofs.wearing.worn.Reads as worn-reads
 
 abbrev Inv-loop : tie.InvT-loop
-Inv-loop hover u₀ kept pressed focus count n items j₀ u j = (j ≤ n) × (n ≤ 6) × (length items ≡ 6) × (u ≡ looking u₀ (lookAfter u₀ hover (take n items) j))
+Inv-loop hover u₀ limit pressed focus kept count n items j₀ u j = (j ≤ n) × (n ≤ 6) × (length items ≡ 6) × (u ≡ withAppearance u₀ (lookAfter u₀ hover (take n items) j))
 
 abbrev μ-loop : tie.MeasureT-loop
-μ-loop hover u₀ kept pressed focus count n items j₀ u j = n - j
+μ-loop hover u₀ limit pressed focus kept count n items j₀ u j = n - j
 
 restated-requires : tie.Need-restated-requires Inv-loop μ-loop
 restated-requires c κs = search needs
@@ -47,7 +36,7 @@ cast-n : tie.Need-cast-n Inv-loop μ-loop
 cast-n c = search needs
 
 loop-holds : tie.Need-loop-holds Inv-loop μ-loop
-loop-holds c = (search needs, c .before .before .before .in-turn .ensures .0, search needs, look-first (c .before .before .before .before .before .args .t1) (c .before .before .before .before .before .args .hover) _)
+loop-holds c = (search needs, c .before .before .in-turn .ensures .0, search needs, look-first (c .before .before .before .before .before .before .before .before .args .t1) (c .before .before .before .before .before .before .before .before .args .hover) _)
 
 mul-i : tie.Need-mul-i Inv-loop μ-loop
 mul-i c = search needs
@@ -68,18 +57,18 @@ loop-less : tie.Need-loop-less Inv-loop μ-loop
 loop-less c = search needs
 
 loop-again : tie.Need-loop-again Inv-loop μ-loop
-unfolding withLooks
+unfolding withStyles
 loop-again c =
-    let u = c .before .before .before .before .before .before .before .before .before .before .before .args .t1 in
-    let hover = c .before .before .before .before .before .before .before .before .before .before .before .args .hover in
-    let t = c .before .before .before .before .before .before .before .before .before .in-turn .result in
+    let u = c .before .before .before .before .before .before .before .before .before .before .before .before .before .before .args .t1 in
+    let hover = c .before .before .before .before .before .before .before .before .before .before .before .before .before .before .args .hover in
+    let t = c .before .before .before .before .before .before .before .before .in-turn .result in
     let l = c .before .before .before .before .before .loop in
     let h : l .j < length (take (t .count) (t .items)) = omega (arith, length-take-le (t .count) (t .items) (omega (arith, l .inv .1, l .inv .2)), c .before .before .before .before .loop-test .taken) in
-    let ei : getD (t .items) (l .j) 0 ≡ getD (take (t .count) (t .items)) (l .j) 0 = sym (front-at (t .items) (t .count) (l .j) (c .before .before .before .before .loop-test .taken)) in
+    let ei : getD (t .items) (l .j) 0 ≡ getD (take (t .count) (t .items)) (l .j) 0 = sym (getD-take (t .count) (t .items) (l .j) 0 (c .before .before .before .before .loop-test .taken)) in
     let pools = look-pools u _ (l .u) (l .inv .3) in
     let g = look-lengths u hover (take (t .count) (t .items)) (l .j) (l .u) (l .inv .3) in
-    let x : length (c .before .before .before .before .before .before .before .before .before .before .before .args .t1 .layout) ≡ 128 = sym (length-map (c .before .before .before .before .before .before .before .before .before .before .before .args .t1 .layout) _) ∙ c .before .before .before .before .before .before .before .before .before .before .before .good .0 .1 .1 .1 .0 .1 .0 .1 in
-    let y : length (c .before .before .before .before .before .before .before .before .before .before .before .args .t1 .states) ≡ 128 = sym (length-map (c .before .before .before .before .before .before .before .before .before .before .before .args .t1 .states) _) ∙ c .before .before .before .before .before .before .before .before .before .before .before .good .0 .1 .1 .1 .1 .1 .1 .1 .1 .1 .0 .1 .0 .1 in (
+    let x : length (c .before .before .before .before .before .before .before .before .before .before .before .before .before .before .args .t1 .layout) ≡ 128 = sym (length-map (c .before .before .before .before .before .before .before .before .before .before .before .before .before .before .args .t1 .layout) _) ∙ c .before .before .before .before .before .before .before .before .before .before .before .before .before .before .good .0 .1 .1 .1 .0 .1 .0 .1 in
+    let y : length (c .before .before .before .before .before .before .before .before .before .before .before .before .before .before .args .t1 .states) ≡ 128 = sym (length-map (c .before .before .before .before .before .before .before .before .before .before .before .before .before .before .args .t1 .states) _) ∙ c .before .before .before .before .before .before .before .before .before .before .before .before .before .before .good .0 .1 .1 .1 .1 .1 .1 .1 .1 .1 .0 .1 .0 .1 in (
       omega (arith, c .before .before .before .before .loop-test .taken),
       l .inv .1,
       l .inv .2,
@@ -111,8 +100,8 @@ entry-of-requires c κs = search needs
 worn-requires : tie.Need-worn-requires Inv-loop μ-loop
 worn-requires c κs = search needs
 
-mul-t32 : tie.Need-mul-t32 Inv-loop μ-loop
-mul-t32 c = search needs
+mul-t36 : tie.Need-mul-t36 Inv-loop μ-loop
+mul-t36 c = search needs
 
 element-set-from-u : tie.Need-element-set-from-u Inv-loop μ-loop
 element-set-from-u c = search needs
@@ -121,14 +110,14 @@ loop-less-2 : tie.Need-loop-less-2 Inv-loop μ-loop
 loop-less-2 c = search needs
 
 loop-again-2 : tie.Need-loop-again-2 Inv-loop μ-loop
-unfolding withLooks stateAt same at
+unfolding withStyles stateAt same at
 loop-again-2 c =
-    let u = c .before .before .before .before .before .before .before .before .before .before .before .before .before .before .before .before .args .t1 in
-    let hover = c .before .before .before .before .before .before .before .before .before .before .before .before .before .before .before .before .args .hover in
-    let t = c .before .before .before .before .before .before .before .before .before .before .before .before .before .before .in-turn .result in
+    let u = c .before .before .before .before .before .before .before .before .before .before .before .before .before .before .before .before .before .before .before .args .t1 in
+    let hover = c .before .before .before .before .before .before .before .before .before .before .before .before .before .before .before .before .before .before .before .args .hover in
+    let t = c .before .before .before .before .before .before .before .before .before .before .before .before .before .in-turn .result in
     let l = c .before .before .before .before .before .before .before .before .before .before .loop in
     let h : l .j < length (take (t .count) (t .items)) = omega (arith, length-take-le (t .count) (t .items) (omega (arith, l .inv .1, l .inv .2)), c .before .before .before .before .before .before .before .before .before .loop-test .taken) in
-    let ei : getD (t .items) (l .j) 0 ≡ getD (take (t .count) (t .items)) (l .j) 0 = sym (front-at (t .items) (t .count) (l .j) (c .before .before .before .before .before .before .before .before .before .loop-test .taken)) in
+    let ei : getD (t .items) (l .j) 0 ≡ getD (take (t .count) (t .items)) (l .j) 0 = sym (getD-take (t .count) (t .items) (l .j) 0 (c .before .before .before .before .before .before .before .before .before .loop-test .taken)) in
     let pools = look-pools u _ (l .u) (l .inv .3) in
     let eb = c .before .before .before .before .before .before .bits-in .ensures ∙ bits-there u (l .u) hover (getD (t .items) (l .j) 0) (look-slots u _ (l .u) (l .inv .3)) in (
       omega (arith, c .before .before .before .before .before .before .before .before .before .loop-test .taken),
@@ -156,8 +145,8 @@ touches-requires-4 c κs = search needs
 styled-requires : tie.Need-styled-requires Inv-loop μ-loop
 styled-requires c κs = search needs
 
-mul-t32-2 : tie.Need-mul-t32-2 Inv-loop μ-loop
-mul-t32-2 c = scaled-fits _ 128 176 (c .before .before .before .before .before .before .before .before .before .before .before .before .before .before .before .if1 .left) (lit< tt)
+mul-t36-2 : tie.Need-mul-t36-2 Inv-loop μ-loop
+mul-t36-2 c = scaled-fits _ 128 176 (c .before .before .before .before .before .before .before .before .before .before .before .before .before .before .before .if1 .left) (lit< tt)
 
 element-set-from-u-2 : tie.Need-element-set-from-u-2 Inv-loop μ-loop
 element-set-from-u-2 c = let h = c .before .before .before .before .before .before .before .before .before .before .before .before .before .before .before .if1 .left in omega (arith, h)
@@ -166,14 +155,14 @@ loop-less-3 : tie.Need-loop-less-3 Inv-loop μ-loop
 loop-less-3 c = omega (arith, c .before .before .before .before .before .before .before .before .before .before .before .before .before .before .before .before .loop-test .taken)
 
 loop-again-3 : tie.Need-loop-again-3 Inv-loop μ-loop
-unfolding withLooks stateAt layoutAt same at
+unfolding withStyles stateAt layoutAt same at
 loop-again-3 c =
-    let u = c .before .before .before .before .before .before .before .before .before .before .before .before .before .before .before .before .before .before .before .before .before .before .before .args .t1 in
-    let hover = c .before .before .before .before .before .before .before .before .before .before .before .before .before .before .before .before .before .before .before .before .before .before .before .args .hover in
-    let t = c .before .before .before .before .before .before .before .before .before .before .before .before .before .before .before .before .before .before .before .before .before .in-turn .result in
+    let u = c .before .before .before .before .before .before .before .before .before .before .before .before .before .before .before .before .before .before .before .before .before .before .before .before .before .before .args .t1 in
+    let hover = c .before .before .before .before .before .before .before .before .before .before .before .before .before .before .before .before .before .before .before .before .before .before .before .before .before .before .args .hover in
+    let t = c .before .before .before .before .before .before .before .before .before .before .before .before .before .before .before .before .before .before .before .before .in-turn .result in
     let l = c .before .before .before .before .before .before .before .before .before .before .before .before .before .before .before .before .before .loop in
     let h : l .j < length (take (t .count) (t .items)) = omega (arith, length-take-le (t .count) (t .items) (omega (arith, l .inv .1, l .inv .2)), c .before .before .before .before .before .before .before .before .before .before .before .before .before .before .before .before .loop-test .taken) in
-    let ei : getD (t .items) (l .j) 0 ≡ getD (take (t .count) (t .items)) (l .j) 0 = sym (front-at (t .items) (t .count) (l .j) (c .before .before .before .before .before .before .before .before .before .before .before .before .before .before .before .before .loop-test .taken)) in
+    let ei : getD (t .items) (l .j) 0 ≡ getD (take (t .count) (t .items)) (l .j) 0 = sym (getD-take (t .count) (t .items) (l .j) 0 (c .before .before .before .before .before .before .before .before .before .before .before .before .before .before .before .before .loop-test .taken)) in
     let pools = look-pools u _ (l .u) (l .inv .3) in
     let eb = c .before .before .before .before .before .before .before .before .before .before .before .before .before .bits-in .ensures ∙ bits-there u (l .u) hover (getD (t .items) (l .j) 0) (look-slots u _ (l .u) (l .inv .3)) in (
       omega (arith, c .before .before .before .before .before .before .before .before .before .before .before .before .before .before .before .before .loop-test .taken),
@@ -185,12 +174,12 @@ loop-again-3 c =
 
 returns : tie.Need-returns Inv-loop μ-loop
 returns c =
-    let u = c .before .before .before .before .before .before .before .before .args .t1 in
-    let hover = c .before .before .before .before .before .before .before .before .args .hover in
-    let t = c .before .before .before .before .before .before .in-turn .result in
+    let u = c .before .before .before .before .before .before .before .before .before .before .before .args .t1 in
+    let hover = c .before .before .before .before .before .before .before .before .before .before .before .args .hover in
+    let t = c .before .before .before .before .before .in-turn .result in
     let l = c .before .before .loop in
     let w = look-last u hover (take (t .count) (t .items)) (l .u) (l .j) (omega (arith, length-take-le (t .count) (t .items) (omega (arith, l .inv .1, l .inv .2)), c .before .loop-test .left)) (l .inv .3) in
-    ap (λ (v : Ui). gives v 0) (refreshed-whole u (l .u) hover w (c .before .before .before .before .before .before .in-turn .ensures .1) (c .before .before .before .before .before .before .before .restated .ensures))
+    ap (λ (v : Ui). gives v 0) (refreshed-whole u (l .u) hover w (c .before .before .before .before .before .in-turn .ensures .1) (c .before .before .before .before .before .before .restated .ensures))
 
 pub refresh-states-spec : {M : Type 1} → statement M
 refresh-states-spec =
@@ -217,7 +206,7 @@ refresh-states-spec =
     element-copy-out-s
     entry-of-requires
     worn-requires
-    mul-t32
+    mul-t36
     element-set-from-u
     loop-less-2
     loop-again-2
@@ -227,7 +216,7 @@ refresh-states-spec =
     touches-requires-3
     touches-requires-4
     styled-requires
-    mul-t32-2
+    mul-t36-2
     element-set-from-u-2
     loop-less-3
     loop-again-3

@@ -4,16 +4,16 @@ use lib.ListN.{length, length-map}
 use native.Mathlib.Omega.{arith}
 use borrow.Author.Tests.{eq-eqb, ne-eqb}
 use Rattle.tree.proofs.Wearings.{styled-past}
-use Rattle.tree.specs.States.{styledAt}
-use Rattle.tree.specs.Tests.{same}
-use Rattle.tree.specs.Styles.{stateAt, layoutAt}
-use Rattle.tree.specs.Trees.{withLooks}
+use Rattle.tree.specs.Wearing.{styledAt}
+use Rattle.arithmetic.specs.Tests.{same}
+use Rattle.arena.specs.Styles.{stateAt, layoutAt}
+use Rattle.tree.specs.Trees.{withStyles}
 use borrow.Author.Needs.{needs}
 use Rattle.tree.proofs.wearing.style_at.Statement.{statement}
 use Rattle.tree.proofs.wearing.style_at.Tie as tie
 
 returns : tie.Need-returns
-unfolding withLooks
+unfolding withStyles
 returns c =
     let h : length (c .before .args .u .layout) ≡ 128 = sym (length-map (c .before .args .u .layout) _) ∙ c .before .good .0 .1 .1 .1 .0 .1 .0 .1 in
     let g : length (c .before .args .u .states) ≡ 128 = sym (length-map (c .before .args .u .states) _) ∙ c .before .good .0 .1 .1 .1 .1 .1 .1 .1 .1 .1 .0 .1 .0 .1 in
@@ -35,7 +35,7 @@ element-set-from-out : tie.Need-element-set-from-out
 element-set-from-out c = search needs
 
 returns-2 : tie.Need-returns-2
-unfolding withLooks styledAt stateAt same
+unfolding withStyles styledAt stateAt same
 returns-2 c = rw (ne-eqb _ _ (c .if2 .taken), c .before .before .based .ensures)
 
 mul-l : tie.Need-mul-l
@@ -54,7 +54,7 @@ element-set-from-out-2 : tie.Need-element-set-from-out-2
 element-set-from-out-2 c = search needs
 
 returns-3 : tie.Need-returns-3
-unfolding withLooks styledAt stateAt layoutAt same
+unfolding withStyles styledAt stateAt layoutAt same
 returns-3 c = rw (eq-eqb _ _ (c .before .before .before .if2 .left), c .styled .ensures, c .before .before .before .before .before .based .ensures)
 
 pub style-at-spec : {M : Type 1} → statement M

@@ -3,10 +3,9 @@ use mathlib.Core.Path.{_≡_, refl, sym, _∙_}
 use lib.ListN.{length, length-map}
 use native.Mathlib.Omega.{arith}
 use Rattle.tree.proofs.Wearings.{tabled-past}
-use Rattle.tree.specs.States.{tabledAt}
-use Rattle.tree.specs.Styles.{stateAt}
-use Rattle.tree.specs.Trees.{withLooks}
-use Rattle.tree.specs.Wearing.{looking}
+use Rattle.tree.specs.Wearing.{tabledAt, withAppearance}
+use Rattle.arena.specs.Styles.{stateAt}
+use Rattle.tree.specs.Trees.{withStyles}
 use borrow.Author.Needs.{needs}
 use Rattle.tree.proofs.wearing.table_at.Statement.{statement}
 use Rattle.tree.proofs.wearing.table_at.Tie as tie
@@ -38,7 +37,7 @@ wear-requires-2 : tie.Need-wear-requires-2
 wear-requires-2 c κs = search needs
 
 returns-2 : tie.Need-returns-2
-unfolding looking withLooks tabledAt stateAt
+unfolding withAppearance withStyles tabledAt stateAt
 returns-2 c = rw (c .wear2 .ensures, c .before .tabled .ensures) refl
 
 pub table-at-spec : {M : Type 1} → statement M

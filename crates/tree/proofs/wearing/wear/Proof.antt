@@ -3,12 +3,12 @@ use mathlib.Core.Path.{_≡_, sym, _∙_}
 use lib.ListN.{length, length-map}
 use native.Mathlib.Omega.{arith}
 use borrow.Author.Tests.{eq-eqb, ne-eqb}
-use Rattle.tree.proofs.Wearings.{wear-past}
-use Rattle.tree.specs.States.{wear, looksOf}
-use Rattle.tree.specs.Tests.{same}
-use Rattle.tree.specs.Styles.{layoutAt, stateAt}
-use Rattle.tree.specs.Trees.{poolOf, withLooks}
-use Rattle.tree.specs.Wearing.{looking}
+use Rattle.arena.proofs.Styles.Wearings.{wear-past}
+use Rattle.arena.specs.States.{wear}
+use Rattle.tree.specs.Wearing.{appearanceOf, withAppearance}
+use Rattle.arithmetic.specs.Tests.{same}
+use Rattle.arena.specs.Styles.{layoutAt, stateAt}
+use Rattle.tree.specs.Trees.{poolOf, withStyles}
 use borrow.Author.Needs.{needs}
 use Rattle.tree.proofs.wearing.wear.Statement.{statement}
 use Rattle.tree.proofs.wearing.wear.Tie as tie
@@ -20,10 +20,10 @@ touches-requires-2 : tie.Need-touches-requires-2
 touches-requires-2 c κs = search needs
 
 returns : tie.Need-returns
-unfolding looking withLooks
+unfolding withAppearance withStyles
 returns c = let h : length (c .before .before .before .before .before .args .u .layout) ≡ 128 = sym (length-map (c .before .before .before .before .before .args .u .layout) _) ∙ c .before .before .before .before .before .good .0 .1 .1 .1 .0 .1 .0 .1 in
     let g : length (c .before .before .before .before .before .args .u .states) ≡ 128 = sym (length-map (c .before .before .before .before .before .args .u .states) _) ∙ c .before .before .before .before .before .good .0 .1 .1 .1 .1 .1 .1 .1 .1 .1 .0 .1 .0 .1 in
-    rw (wear-past (poolOf (c .before .before .before .before .before .args .u)) (looksOf (c .before .before .before .before .before .args .u)) (c .before .before .before .before .before .args .i) (c .before .before .before .before .before .args .bits) (omega (arith, h, c .before .before .before .if1 .taken)) (omega (arith, g, c .before .before .before .if1 .taken)), c .before .before .touches .ensures, c .before .touches2 .ensures)
+    rw (wear-past (poolOf (c .before .before .before .before .before .args .u)) (appearanceOf (c .before .before .before .before .before .args .u)) (c .before .before .before .before .before .args .i) (c .before .before .before .before .before .args .bits) (omega (arith, h, c .before .before .before .if1 .taken)) (omega (arith, g, c .before .before .before .if1 .taken)), c .before .before .touches .ensures, c .before .touches2 .ensures)
 
 mul-s : tie.Need-mul-s
 mul-s c = search needs
@@ -44,7 +44,7 @@ element-set-from-out : tie.Need-element-set-from-out
 element-set-from-out c = search needs
 
 returns-2 : tie.Need-returns-2
-unfolding looking withLooks wear stateAt same
+unfolding withAppearance withStyles wear stateAt same
 returns-2 c = rw (← c .before .before .before .entry-of .ensures, eq-eqb _ _ (c .if2 .taken), c .before .before .worn .ensures)
 
 mul-l : tie.Need-mul-l
@@ -72,7 +72,7 @@ element-set-from-out-2 : tie.Need-element-set-from-out-2
 element-set-from-out-2 c = let h = c .before .before .before .before .before .before .before .before .before .before .before .before .before .before .if1 .left in search needs
 
 returns-3 : tie.Need-returns-3
-unfolding looking withLooks wear layoutAt stateAt same
+unfolding withAppearance withStyles wear layoutAt stateAt same
 returns-3 c = rw (← c .before .before .before .before .before .before .before .before .before .before .before .entry-of .ensures, ne-eqb _ _ (c .before .before .before .before .before .before .before .before .if2 .left), ← c .before .before .before .before .before .before .before .before .before .before .worn .ensures, c .before .styled .ensures, c .before .before .touches4 .ensures, c .before .before .before .touches3 .ensures, c .before .before .before .before .patch-style .ensures)
 
 pub wear-spec : {M : Type 1} → statement M

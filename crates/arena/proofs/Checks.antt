@@ -1,0 +1,6 @@
+pub mod ListLaws
+pub mod QueueLaws
+pub mod WalkLaws
+pub mod RuleLaws
+pub mod Stated
+pub mod CheckLaws

@@ -1,0 +1,15 @@
+pub mod ForestLaws
+pub mod Payloads
+pub mod Rounds
+pub mod Segments
+pub mod Relations
+pub mod Orders
+pub mod SlotChanges
+pub mod LinkInserts
+pub mod FreeOrders
+pub mod LinkRemovals
+pub mod Generations
+pub mod Starts
+pub mod Ids
+pub mod ChildLinks
+pub mod ChainLaws

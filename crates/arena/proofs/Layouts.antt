@@ -1,0 +1,7 @@
+pub mod Contents
+pub mod PassLaws
+pub mod PassSteps
+pub mod Passes
+pub mod Placing
+pub mod Sharing
+pub mod SlottedOrders

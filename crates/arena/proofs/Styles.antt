@@ -1,0 +1,6 @@
+pub mod GeometryLaws
+pub mod Raws
+pub mod Pools
+pub mod WearLaws
+pub mod Keeps
+pub mod Wearings

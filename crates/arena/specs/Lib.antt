@@ -1,0 +1,11 @@
+pub mod Slots
+pub mod Styles
+pub mod Geometry
+pub mod States
+pub mod Layout
+pub mod Hit
+pub mod Fields
+pub mod Rules
+pub mod Forest
+pub mod Nodes
+pub mod Support

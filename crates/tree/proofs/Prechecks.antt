@@ -1,0 +1,147 @@
+-- What a call on a node gives where it is refused at once, and where it is not; and what a tree that is not broken has. Assumes nothing.
+use mathlib.Core.Path.{_≡_, refl, sym, ap, _∙_}
+use mathlib.Core.Bool.{Bool, true, false, _&&_, not}
+use mathlib.Core.List.{List, [], _∷_, _++_}
+use Prim.Native.Nat.{ℕ, zero, suc, _+_, _≤_, _<_}
+use native.Mathlib.Omega.{arith}
+use borrow.Author.Tests.{ltb-true, leb-true}
+use lib.Dec.{ltb, leb}
+use lib.ListN.{length, take}
+use Rattle.field.specs.Fields.{fieldOk}
+use Rattle.text.specs.declared.refusal.Refusal.{Refusal}
+use Rattle.text.specs.declared.refusal.Refusal.the-variants.{Broken, Missing}
+use Rattle.text.specs.declared.refusal.Verdict.the-variants.{Accepted, Refused}
+use Rattle.field.specs.declared.NodeId.{NodeId}
+use Rattle.arithmetic.specs.Tests.{same, all, occ, headOr, fromTo}
+use Rattle.arena.specs.Slots.{Slots, NIL, at, isLive, order, chain, kidsAt}
+use Rattle.tree.specs.Trees.{limitOf, statedOf}
+use Rattle.tree.specs.Broken.{broken, linksWell}
+use Rattle.arena.specs.Rules.{linked, eachOnce, aliveness, nodeWell, freeWell, stateWell, distinct, ownersWell}
+use Rattle.tree.specs.Calls.{Outcome, refuses, guarded, onLive}
+use Rattle.tree.specs.Answers.{precheck}
+use Rattle.tree.specs.declared.Ui.{Ui}
+use Rattle.arithmetic.proofs.TestLaws.{bool-cases, eq-cases}
+use Rattle.arena.proofs.Styles.GeometryLaws.{no-more}
+
+word-is : (v w : Refusal) → Refused v ≡ Refused w → v ≡ w
+word-is v w e = cc
+
+not-both : {G : Type 0} (w : Refusal) → Accepted ≡ Refused w → G
+not-both w e = let z : _≡_ {A = ℕ} 0 1 = cc in absurd (omega arith)
+
+module _ (u : Ui) (d : NodeId) where
+  pub refused-at-once : {A : Type 0} (none : A) (o : Outcome A) (word : Refusal) → precheck u d ≡ Refused word → refuses u word none ≡ onLive u d none o
+  unfolding precheck onLive guarded
+  refused-at-once none o word e =
+      bool-cases (broken u)
+      (λ b. let q : Broken ≡ word = word-is Broken word (rw b at e) in rw b (ap (λ (w : Refusal). refuses u w none) (sym q)))
+      (λ b. bool-cases (isLive (limitOf u) (u .slots) d)
+      (λ l. not-both word (rw (b, l) at e))
+      (λ l. let q : Missing ≡ word = word-is Missing word (rw (b, l) at e) in rw (b, l) (ap (λ (w : Refusal). refuses u w none) (sym q))))
+
+  pub not-refused : {A : Type 0} (none : A) (o : Outcome A) → precheck u d ≡ Accepted → o ≡ onLive u d none o
+  unfolding precheck onLive guarded
+  not-refused none o e =
+      bool-cases (broken u)
+      (λ b. not-both Broken (sym (rw b at e)))
+      (λ b. bool-cases (isLive (limitOf u) (u .slots) d) (λ l. rw (b, l)) (λ l. not-both Missing (sym (rw (b, l) at e))))
+
+  pub not-broken : precheck u d ≡ Accepted → broken u ≡ false
+  unfolding precheck
+  not-broken e = bool-cases (broken u) (λ b. not-both Broken (sym (rw b at e))) (λ b. b)
+
+-- ---- a tree that is not broken
+
+first : (a b : Bool) → (a && b) ≡ true → a ≡ true
+first true b e = refl
+first false b e = e
+
+third : (a b c d : Bool) → not (a && (b && (c && d))) ≡ false → (a ≡ true) × (c ≡ true)
+third true true true d e = (refl, refl)
+third true true false d e = no-more (sym e)
+third true false c d e = no-more (sym e)
+third false b c d e = no-more (sym e)
+
+seventh : (a b c d e f g h : Bool) → not (a && (b && (c && (d && (e && (f && (g && h))))))) ≡ false → g ≡ true
+seventh true true true true true true true h z = refl
+seventh true true true true true true false h z = no-more (sym z)
+seventh true true true true true false g h z = no-more (sym z)
+seventh true true true true false f g h z = no-more (sym z)
+seventh true true true false e f g h z = no-more (sym z)
+seventh true true false d e f g h z = no-more (sym z)
+seventh true false c d e f g h z = no-more (sym z)
+seventh false b c d e f g h z = no-more (sym z)
+
+second-fourth-sixth : (a b c d e f : Bool) → (a && (b && (c && (d && (e && f))))) ≡ true → (b ≡ true) × (d ≡ true) × (f ≡ true)
+second-fourth-sixth true true true true true f e = (refl, refl, e)
+second-fourth-sixth true true true true false f e = no-more e
+second-fourth-sixth true true true false x f e = no-more e
+second-fourth-sixth true true false d x f e = no-more e
+second-fourth-sixth true false c d x f e = no-more e
+second-fourth-sixth false b c d x f e = no-more e
+
+last-of-three : (a b c : Bool) → (a && (b && c)) ≡ true → c ≡ true
+last-of-three true true c e = e
+last-of-three true false c e = no-more e
+last-of-three false b c e = no-more e
+
+last-of-two : (a b : Bool) → (a && b) ≡ true → b ≡ true
+last-of-two true b e = e
+last-of-two false b e = no-more e
+
+order-is-short : (k : ℕ) (s : Slots) (q : List ℕ) → length (order k s q) ≤ k
+unfolding order
+order-is-short zero s q = omega arith
+order-is-short (suc k) s [] = omega arith
+order-is-short (suc k) s (i ∷ q) = let r = order-is-short k s (q ++ kidsAt s i) in omega arith
+
+head-inside : (n : ℕ) (l : List ℕ) → all (λ (i : ℕ). ltb i n) l ≡ true → (headOr NIL l ≡ NIL → ⊥) → headOr NIL l < n
+head-inside n [] e h = absurd (h refl)
+head-inside n (i ∷ is) e h = ltb-true i n (first (ltb i n) _ e)
+
+module _ (u : Ui) (b : broken u ≡ false) where
+  abbrev reached : List ℕ
+  reached = order 128 (u .slots) (0 ∷ [])
+
+  abbrev free : List ℕ
+  free = chain 128 (u .slots) (u .free)
+
+  kept : ((leb 1 (limitOf u) && leb (limitOf u) 128) ≡ true) × (linksWell u ≡ true)
+  unfolding broken
+  kept =
+      third (leb 1 (limitOf u) && leb (limitOf u) 128) (leb (u .«patch_count») 64) (linksWell u)
+      (all (stateWell (u .«patch_count»)) (take (limitOf u) (u .states))
+      && (leb (u .«stated_count») 3 && (distinct (limitOf u) (statedOf u) && (leb (u .«output_count») (limitOf u) && (ownersWell (u .fields) && all fieldOk (u .fields)))))) b
+
+  parts : (eachOnce (limitOf u) (u .slots) reached free ≡ true) × (same (u .free) (headOr NIL free) ≡ true) × (same (u .live) (length reached) ≡ true)
+  unfolding linksWell linked
+  parts =
+      second-fourth-sixth
+      (at (u .slots) 0 .live && (same (at (u .slots) 0 .parent) NIL && (same (at (u .slots) 0 .«prev_sibling») NIL && same (at (u .slots) 0 .«next_sibling») NIL)))
+      (eachOnce (limitOf u) (u .slots) reached free) (all (nodeWell (u .slots)) reached) (same (u .free) (headOr NIL free)) (freeWell (u .slots) free) (same (u .live) (length reached)) (kept .1)
+
+  pub few-slots : limitOf u ≤ 128
+  few-slots = leb-true (limitOf u) 128 (last-of-two (leb 1 (limitOf u)) (leb (limitOf u) 128) (kept .0))
+
+  pub few-waiting : u .«output_count» ≤ limitOf u
+  unfolding broken
+  few-waiting =
+      leb-true (u .«output_count») (limitOf u)
+      (seventh (leb 1 (limitOf u) && leb (limitOf u) 128) (leb (u .«patch_count») 64) (linksWell u)
+      (all (stateWell (u .«patch_count»)) (take (limitOf u) (u .states))) (leb (u .«stated_count») 3) (distinct (limitOf u) (statedOf u))
+      (leb (u .«output_count») (limitOf u)) (ownersWell (u .fields) && all fieldOk (u .fields)) b)
+
+  pub few-live : u .live ≤ 128
+  few-live =
+      let s = order-is-short 128 (u .slots) (0 ∷ []) in
+      eq-cases (u .live) (length reached) (λ q _ _. omega arith) (λ _ n _. no-more (sym n ∙ parts .2))
+
+  pub free-inside : (u .free ≡ NIL → ⊥) → u .free < 128
+  unfolding eachOnce
+  free-inside h =
+      let a : all (λ (i : ℕ). ltb i (limitOf u)) free ≡ true = last-of-three
+      (all (λ (i : ℕ). same (occ i reached) (aliveness (at (u .slots) i)) && same (occ i reached + occ i free) 1) (fromTo 0 (limitOf u))) (all (λ (i : ℕ). ltb i (limitOf u)) reached) (all (λ (i : ℕ). ltb i (limitOf u)) free) (parts .0) in
+      let m = few-slots in
+      eq-cases (u .free) (headOr NIL free)
+      (λ q _ _. let r = head-inside (limitOf u) free a (λ z. h (q ∙ z)) in omega arith)
+      (λ _ n _. no-more (sym n ∙ parts .1))
