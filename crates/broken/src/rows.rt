@@ -3,11 +3,11 @@ use crate::asking;
 use crate::asking::Answer;
 use crate::good;
 use crate::good::Base;
-use damage::Dress;
 use damage::Edits;
 use damage::Link;
 use damage::Mark;
 use damage::Part;
+use damage::StatePart;
 use damage::same;
 use field::NodeId;
 use report::put;
@@ -257,18 +257,18 @@ pub(crate) fn free() {
 pub(crate) fn states() {
     grown(
         b"worn number past the pool",
-        set(Part::OfState(Dress::Applied), 3, 2),
-        set(Part::OfState(Dress::Applied), 3, 1),
+        set(Part::OfState(StatePart::Applied), 3, 2),
+        set(Part::OfState(StatePart::Applied), 3, 1),
     );
     grown(
         b"table number past the pool",
-        set(Part::OfState(Dress::Table), 3, 2),
-        set(Part::OfState(Dress::Table), 3, 1),
+        set(Part::OfState(StatePart::Table), 3, 2),
+        set(Part::OfState(StatePart::Table), 3, 1),
     );
     grown(
         b"bits 8",
-        set(Part::OfState(Dress::Bits), 3, 8),
-        set(Part::OfState(Dress::Bits), 3, 7),
+        set(Part::OfState(StatePart::Bits), 3, 8),
+        set(Part::OfState(StatePart::Bits), 3, 7),
     );
 }
 

@@ -20,7 +20,7 @@ pub enum Link {
 }
 
 // Which number of a state slot; `Table` is its last entry.
-pub enum Dress {
+pub enum StatePart {
     Applied,
     Table,
     Bits,
@@ -46,7 +46,7 @@ pub enum Part {
     Stated,
     Outputs,
     OfSlot(Link),
-    OfState(Dress),
+    OfState(StatePart),
     OfField(Mark),
 }
 
@@ -137,16 +137,16 @@ fn slot_with(s: Slot, link: Link, value: u32) -> Slot {
     out
 }
 
-fn state_with(s: StateSlot, dress: Dress, value: u32) -> StateSlot {
+fn state_with(s: StateSlot, number: StatePart, value: u32) -> StateSlot {
     let mut out = s;
-    match dress {
-        Dress::Applied => {
+    match number {
+        StatePart::Applied => {
             out.applied = low(value);
         }
-        Dress::Table => {
+        StatePart::Table => {
             out.table[15] = low(value);
         }
-        Dress::Bits => {
+        StatePart::Bits => {
             out.bits = lowest(value);
         }
     }
@@ -231,11 +231,11 @@ fn slot_set(u: Ui, link: Link, at: usize, value: u32) -> Ui {
     out
 }
 
-fn state_set(u: Ui, dress: Dress, at: usize, value: u32) -> Ui {
+fn state_set(u: Ui, number: StatePart, at: usize, value: u32) -> Ui {
     let mut out = u;
     if at < 128 {
         let states = u.states;
-        let next = state_with(states[at], dress, value);
+        let next = state_with(states[at], number, value);
         out.states[at] = next;
     }
     out
@@ -257,7 +257,7 @@ fn edited(u: Ui, e: Edit) -> Ui {
     let at = e.at as usize;
     match part {
         Part::OfSlot(link) => slot_set(u, link, at, e.value),
-        Part::OfState(dress) => state_set(u, dress, at, e.value),
+        Part::OfState(number) => state_set(u, number, at, e.value),
         Part::OfField(mark) => field_set(u, mark, at, e.value),
         _ => number_set(u, part, at, e.value),
     }
