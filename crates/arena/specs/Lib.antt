@@ -8,4 +8,5 @@ pub mod Fields
 pub mod Rules
 pub mod Forest
 pub mod Nodes
+pub mod History
 pub mod Support
