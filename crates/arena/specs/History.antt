@@ -18,7 +18,7 @@ use Rattle.arithmetic.specs.Tests.{same, all, Maybe, nothing, just}
 use Rattle.arena.specs.Styles.{noPatch, noRect}
 use Rattle.arena.specs.States.{inPool, sameId}
 use Rattle.arena.specs.Layout.{viewRect, sameView}
-use Rattle.arena.specs.Forest.{Forest, nil, node, app, hasBoth, hasId, kidsOf, setKidsOf, cutOf, find, size, mapF, anyF}
+use Rattle.arena.specs.Forest.{Forest, nil, node, app, hasBoth, hasId, kidsOf, setKidsOf, cutOf, find, firstId, nextId, size, mapF, anyF}
 use Rattle.arena.specs.Nodes.{Info, newInfo, withField, changeOf, changeNamed, wears, swaps, bitsFor, restyled, withTable, bare, placeF, hitF, hasField, bit}
 use Rattle.arena.specs.declared.Style.{Style}
 use Rattle.arena.specs.declared.Rect.{Rect}
@@ -140,6 +140,16 @@ metresSaid h d = ofNode 0 (λ x. ofText 0 (λ t. metresOf (bytesOf t)) (x .text)
 
 unfoldable pub rectSaid : History → NodeId → Answer Rect
 rectSaid h d = ofNode noRect (λ x. accepted (x .rect)) (find d (h .tree))
+
+unfoldable pub liveSaid : History → NodeId → Answer Bool
+liveSaid h d = accepted (has h d)
+
+-- A dead node has no first child; of its next sibling is asked in vain.
+unfoldable pub firstSaid : History → NodeId → Answer MaybeId
+firstSaid h d = accepted (firstId (kidsOf d (h .tree)))
+
+unfoldable pub nextSaid : History → NodeId → Answer MaybeId
+nextSaid h d = cond (has h d) (accepted (nextId d (h .tree))) (refused Missing Absent)
 
 -- The refusal number of a call, by document 01's table; 0 where it is accepted. Number 1 never comes.
 abbrev pub unless : Bool → ℕ → ℕ → ℕ

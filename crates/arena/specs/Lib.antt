@@ -9,4 +9,6 @@ pub mod Rules
 pub mod Forest
 pub mod Nodes
 pub mod History
+pub mod Runs
+pub mod SourceRuns
 pub mod Support
