@@ -2,4 +2,5 @@ pub mod Events
 pub mod Support
 pub mod Demand3
 pub mod Keys
+pub mod Corollaries
 pub mod Answers
