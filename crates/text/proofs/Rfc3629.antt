@@ -15,6 +15,7 @@ use Rattle.arithmetic.proofs.BoolLaws.{and-left, and-right, and-both}
 use Rattle.text.proofs.Scalars.{scalar-top, scalar-gap, scalar-low, scalar-high, encoded-one, encoded-two, encoded-three, encoded-four}
 use Rattle.text.proofs.Sound.{read-writes, read-scalars, two-good, three-bytes, four-good}
 use Rattle.text.proofs.Complete.{written-well, written-reads}
+use Rattle.text.proofs.Order.{characters-sort-as-codes, texts-sort-as-their-codes}
 
 -- a character's bytes before a string of the grammar
 module _ (c : ℕ) (h : isScalar c ≡ true) (s : List ℕ) (o : Octets s) where
@@ -136,4 +137,6 @@ as-rfc-3629 = record {
   one-list = λ s v w. list-read s v ∙ sym (list-read s w);
   read-back = written-reads;
   written-back = λ s o. read-writes s (octets-are-taken s o);
+  bytes-sort-as-codes = λ a b _ _. characters-sort-as-codes a b;
+  texts-sort-as-codes = texts-sort-as-their-codes;
 }
