@@ -6,12 +6,13 @@ use mathlib.Core.Bool.{Bool, true, false, false≢true, cond}
 use mathlib.Core.List.{List, [], _∷_, _++_, append-nil}
 use Prim.Native.Nat.{ℕ, _+_, _/_, _%_, _≤_, _<_}
 use native.Mathlib.Omega.{arith}
-use borrow.Author.Tests.{leb-true, leb-false, eq-eqb, ne-eqb, eqb-true, eqb-false, lt-ltb, le-ltb, ltb-true, ltb-false}
-use lib.Dec.{leb, eqb, ltb}
+use borrow.Author.Tests.{eq-eqb, ne-eqb, eqb-true, eqb-false, lt-ltb, le-ltb, ltb-true, ltb-false}
+use lib.Dec.{eqb, ltb}
 use Rattle.text.specs.Utf8.{isScalar, allScalars, encoded, encodedAll}
 use Rattle.text.specs.Rfc3629.{before}
 use Rattle.arithmetic.proofs.BoolLaws.{and-left, and-right}
-use Rattle.text.proofs.Scalars.{encoded-one, encoded-two, encoded-three, encoded-four}
+use Rattle.text.proofs.Scalars.{encoded-one, encoded-two, encoded-three, encoded-four, Size, size-of}
+use Rattle.text.proofs.Scalars.Size.{of-one, of-two, of-three, of-four}
 use Rattle.text.proofs.Shapes.{shape}
 
 -- ---- lists by their first numbers
@@ -59,22 +60,6 @@ one-way (x ∷ s) (y ∷ t) h = go (eqb x y) (ltb x y) refl refl (λ k. one-way 
 
 -- ---- characters
 
--- how many bytes a code takes
-data Size (c : ℕ) : Type 0 where
-  one : c ≤ 0x7F → Size c
-  two : 0x7F < c → c ≤ 0x7FF → Size c
-  three : 0x7FF < c → c ≤ 0xFFFF → Size c
-  four : 0xFFFF < c → Size c
-
-size-of : (c : ℕ) → Size c
-size-of c = go (leb c 0x7F) (leb c 0x7FF) (leb c 0xFFFF) refl refl refl
-  where
-    go : (t u v : Bool) → leb c 0x7F ≡ t → leb c 0x7FF ≡ u → leb c 0xFFFF ≡ v → Size c
-    go true u v et eu ev = one (leb-true c 0x7F et)
-    go false true v et eu ev = two (leb-false c 0x7F et) (leb-true c 0x7FF eu)
-    go false false true et eu ev = three (leb-false c 0x7FF eu) (leb-true c 0xFFFF ev)
-    go false false false et eu ev = four (leb-false c 0xFFFF ev)
-
 -- a byte that carries six bits: where all above it is alike, the smaller number's is no larger, and the last one's is smaller
 module _ (a b : ℕ) (above : a / 64 ≡ b / 64) where
   byte-rises : a ≤ b → 0x80 + a % 64 ≤ 0x80 + b % 64
@@ -112,22 +97,22 @@ module _ (a b : ℕ) (l : a < b) where
       (λ f. let g = byte-is-all (a / 4096) (b / 4096) d f in ends-rise s t (omega (arith, g))))
 
 smaller-sorts-first : (a b : ℕ) (s t : List ℕ) → Size a → Size b → a < b → before (encoded a ++ s) (encoded b ++ t) ≡ true
-smaller-sorts-first a b s t (one h) (one k) l = rw (encoded-one a h, encoded-one b k) (first-smaller a b s t l)
-smaller-sorts-first a b s t (one h) (two i k) l = rw (encoded-one a h, encoded-two b i k) (first-smaller _ _ _ _ (omega arith))
-smaller-sorts-first a b s t (one h) (three i k) l = rw (encoded-one a h, encoded-three b i k) (first-smaller _ _ _ _ (omega arith))
-smaller-sorts-first a b s t (one h) (four i) l = rw (encoded-one a h, encoded-four b i) (first-smaller _ _ _ _ (omega arith))
-smaller-sorts-first a b s t (two g h) (one k) l = absurd (omega arith)
-smaller-sorts-first a b s t (two g h) (two i k) l = rw (encoded-two a g h, encoded-two b i k) (two-bytes-rise a b l s t)
-smaller-sorts-first a b s t (two g h) (three i k) l = rw (encoded-two a g h, encoded-three b i k) (first-smaller _ _ _ _ (omega arith))
-smaller-sorts-first a b s t (two g h) (four i) l = rw (encoded-two a g h, encoded-four b i) (first-smaller _ _ _ _ (omega arith))
-smaller-sorts-first a b s t (three g h) (one k) l = absurd (omega arith)
-smaller-sorts-first a b s t (three g h) (two i k) l = absurd (omega arith)
-smaller-sorts-first a b s t (three g h) (three i k) l = rw (encoded-three a g h, encoded-three b i k) (three-bytes-rise a b l s t)
-smaller-sorts-first a b s t (three g h) (four i) l = rw (encoded-three a g h, encoded-four b i) (first-smaller _ _ _ _ (omega arith))
-smaller-sorts-first a b s t (four g) (one k) l = absurd (omega arith)
-smaller-sorts-first a b s t (four g) (two i k) l = absurd (omega arith)
-smaller-sorts-first a b s t (four g) (three i k) l = absurd (omega arith)
-smaller-sorts-first a b s t (four g) (four i) l = rw (encoded-four a g, encoded-four b i) (four-bytes-rise a b l s t)
+smaller-sorts-first a b s t (of-one h) (of-one k) l = rw (encoded-one a h, encoded-one b k) (first-smaller a b s t l)
+smaller-sorts-first a b s t (of-one h) (of-two i k) l = rw (encoded-one a h, encoded-two b i k) (first-smaller _ _ _ _ (omega arith))
+smaller-sorts-first a b s t (of-one h) (of-three i k) l = rw (encoded-one a h, encoded-three b i k) (first-smaller _ _ _ _ (omega arith))
+smaller-sorts-first a b s t (of-one h) (of-four i) l = rw (encoded-one a h, encoded-four b i) (first-smaller _ _ _ _ (omega arith))
+smaller-sorts-first a b s t (of-two g h) (of-one k) l = absurd (omega arith)
+smaller-sorts-first a b s t (of-two g h) (of-two i k) l = rw (encoded-two a g h, encoded-two b i k) (two-bytes-rise a b l s t)
+smaller-sorts-first a b s t (of-two g h) (of-three i k) l = rw (encoded-two a g h, encoded-three b i k) (first-smaller _ _ _ _ (omega arith))
+smaller-sorts-first a b s t (of-two g h) (of-four i) l = rw (encoded-two a g h, encoded-four b i) (first-smaller _ _ _ _ (omega arith))
+smaller-sorts-first a b s t (of-three g h) (of-one k) l = absurd (omega arith)
+smaller-sorts-first a b s t (of-three g h) (of-two i k) l = absurd (omega arith)
+smaller-sorts-first a b s t (of-three g h) (of-three i k) l = rw (encoded-three a g h, encoded-three b i k) (three-bytes-rise a b l s t)
+smaller-sorts-first a b s t (of-three g h) (of-four i) l = rw (encoded-three a g h, encoded-four b i) (first-smaller _ _ _ _ (omega arith))
+smaller-sorts-first a b s t (of-four g) (of-one k) l = absurd (omega arith)
+smaller-sorts-first a b s t (of-four g) (of-two i k) l = absurd (omega arith)
+smaller-sorts-first a b s t (of-four g) (of-three i k) l = absurd (omega arith)
+smaller-sorts-first a b s t (of-four g) (of-four i) l = rw (encoded-four a g, encoded-four b i) (four-bytes-rise a b l s t)
 
 -- two characters before anything: the texts behind them count where the codes are the same
 characters-decide : (a b : ℕ) (s t : List ℕ) → before (encoded a ++ s) (encoded b ++ t) ≡ cond (eqb a b) (before s t) (ltb a b)
