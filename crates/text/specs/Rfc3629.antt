@@ -32,7 +32,7 @@ pub record AsRfc3629 : Type 0 where
   -- reading gives back what was written, and writing what was read
   pub read-back : (cs : List ℕ) → allScalars cs ≡ true → scalars (encodedAll cs) ≡ cs
   pub written-back : (s : List ℕ) → Octets s → encodedAll (scalars s) ≡ s
-  -- section 1: bytes sort as the codes that they write, of one character and of a text. With the fields above, this leaves every code just the bytes
-  -- that it has: an order on both sides is kept by one pairing only
+  -- section 1: characters, and texts, sort by their bytes as by their codes. What stands above holds of any pairing of the codes with the grammar's
+  -- characters; only one pairing keeps the order, so that this fixes the bytes of each code
   pub bytes-sort-as-codes : (a b : ℕ) → isScalar a ≡ true → isScalar b ≡ true → before (encoded a) (encoded b) ≡ ltb a b
   pub texts-sort-as-codes : (cs ds : List ℕ) → allScalars cs ≡ true → allScalars ds ≡ true → before (encodedAll cs) (encodedAll ds) ≡ before cs ds
