@@ -11,5 +11,6 @@ pub mod ComputedRuns
 pub mod AnswerLaws
 pub mod ReadSteps
 pub mod CallSteps
+pub mod CallLaws
 pub mod Demand3
 pub mod Corollaries

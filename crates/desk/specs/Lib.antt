@@ -2,5 +2,6 @@ pub mod Events
 pub mod Support
 pub mod History
 pub mod Demand3
+pub mod CallLaws
 pub mod Keys
 pub mod Answers
