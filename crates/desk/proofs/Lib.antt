@@ -12,5 +12,7 @@ pub mod AnswerLaws
 pub mod ReadSteps
 pub mod CallSteps
 pub mod CallLaws
+pub mod NotBrokenStays
+pub mod PassBoxes
 pub mod Demand3
 pub mod Corollaries
