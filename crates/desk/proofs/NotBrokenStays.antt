@@ -1,13 +1,12 @@
 -- Every call keeps a tree that is not broken, and so does every list of calls. Assumes nothing.
 use mathlib.Core.Path.{_≡_, refl, sym, ap, subst, _∙_}
-use mathlib.Core.Logic.{_≢_}
 use mathlib.Core.Bool.{Bool, true, false, _&&_, not}
 use mathlib.Core.List.{List, [], _∷_, _++_}
-use Prim.Native.Nat.{ℕ, _≤_, _<_}
+use Prim.Native.Nat.{ℕ, _<_}
 use native.Mathlib.Omega.{arith}
 use borrow.Author.Tests.{ltb-true, ltb-false}
 use lib.Dec.{ltb}
-use lib.ListN.{length, getD, take, length-append}
+use lib.ListN.{length, length-append}
 use lib.Seq.{length-take-le, take-all}
 use Rattle.field.specs.Fields.{fieldOk}
 use Rattle.field.specs.declared.NodeId.{NodeId}
@@ -21,13 +20,14 @@ use Rattle.tree.specs.Slots.{NIL, isLive}
 use Rattle.tree.specs.Styles.{noState, stateAt}
 use Rattle.tree.specs.States.{inPool, isId}
 use Rattle.tree.specs.Fields.{owns, fieldOf, firstField, vacant, reclaimed, changeFirst}
-use Rattle.tree.specs.Trees.{limitOf, waitingOf, withFields}
+use Rattle.tree.specs.Trees.{limitOf, waitingOf}
 use Rattle.tree.specs.Broken.{broken}
 use Rattle.tree.specs.Calls as tree
 use Rattle.tree.specs.Calls.{nobody, takeVacant, takeField, sameView}
 use Rattle.tree.specs.Types.{StateSlot}
 use Rattle.tree.specs.declared.Ui.{Ui}
 use Rattle.tree.proofs.Relation.{AllFields}
+use Rattle.tree.proofs.GeometryLaws.{same-is}
 use Rattle.tree.proofs.StateLaws.{EachState}
 use Rattle.tree.proofs.WellLaws.{each-of-a-front-passes, a-front-passes-if-each-does, states-well-by-slot}
 use Rattle.tree.proofs.FieldLaws.{an-edit-keeps-of-each, an-edit-keeps-the-number-of-fields, an-edit-keeps-owners-apart}
@@ -49,14 +49,11 @@ use Rattle.desk.proofs.KeySteps.{key-keeps-owner, key-keeps-rules}
 
 -- ---- lengths as tests
 
-equal-if-the-same : (i j : ℕ) → same i j ≡ true → i ≡ j
-equal-if-the-same i j e = eq-cases i j (λ q _ _. q) (λ _ s _. let z : _≡_ {A = ℕ} 0 1 = cc in absurd (omega arith))
-
 each-table : (l : List StateSlot) → length l ≡ 128 → all (λ (s : StateSlot). same (length (s .table)) 16) l ≡ true → EachState Tabled 128 l
 unfolding stateAt
 each-table l h e j b =
     let p : StateSlot → Bool = λ s. same (length (s .table)) 16 in
-    equal-if-the-same _ 16 (each-of-a-front-passes p noState 128 l (subst (λ (m : List StateSlot). all p m ≡ true) (sym (take-all 128 l (omega arith))) e) j b (omega arith))
+    same-is _ 16 (each-of-a-front-passes p noState 128 l (subst (λ (m : List StateSlot). all p m ≡ true) (sym (take-all 128 l (omega arith))) e) j b (omega arith))
 
 all-tables : (l : List StateSlot) → length l ≡ 128 → EachState Tabled 128 l → all (λ (s : StateSlot). same (length (s .table)) 16) l ≡ true
 unfolding stateAt
@@ -70,7 +67,7 @@ each-field [] r l = tt
 each-field (f ∷ fs) r l =
     let b : Bool = same (length (f .bytes)) 64 in
     let bs : Bool = all (λ (f : Field). same (length (f .bytes)) 64) fs in
-    ((and-left (fieldOk f) (all fieldOk fs) r, equal-if-the-same (length (f .bytes)) 64 (and-left b bs l)), each-field fs (and-right (fieldOk f) (all fieldOk fs) r) (and-right b bs l))
+    ((and-left (fieldOk f) (all fieldOk fs) r, same-is (length (f .bytes)) 64 (and-left b bs l)), each-field fs (and-right (fieldOk f) (all fieldOk fs) r) (and-right b bs l))
 
 all-bytes : (fs : List Field) → AllFields FieldKept fs → all (λ (f : Field). same (length (f .bytes)) 64) fs ≡ true
 all-bytes [] r = refl

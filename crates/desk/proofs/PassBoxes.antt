@@ -1,7 +1,7 @@
 -- A pass uses no earlier box: of a tree that is not broken the links hold a forest, and a pass lays that out by the styles alone. Assumes nothing.
 use mathlib.Core.Path.{_≡_, refl, sym, ap, _∙_}
 use mathlib.Core.Bool.{Bool, true, false, _&&_, _||_, not, cond}
-use mathlib.Core.List.{List, map}
+use mathlib.Core.List.{List}
 use native.Mathlib.Omega.{arith}
 use lib.ListN.{length, length-map}
 use Rattle.text.specs.Refusal.{Answer, accepted, refused}
@@ -15,11 +15,11 @@ use Rattle.tree.specs.Trees.{limitOf, withStyles, withPass}
 use Rattle.tree.specs.Broken.{broken, linksWell}
 use Rattle.tree.specs.Calls as tree
 use Rattle.tree.specs.Calls.{guarded, onLive, sameView}
-use Rattle.tree.specs.Types.{Style, Rect, LayoutSlot, Viewport}
+use Rattle.tree.specs.Types.{Rect, LayoutSlot, Viewport}
 use Rattle.tree.specs.declared.Ui.{Ui}
 use Rattle.tree.proofs.PassBoxes.{equal-styles-slot-by-slot, the-boxes-after-a-pass-are-by-the-styles}
 use Rattle.tree.proofs.KeptLinks.{the-forest-that-the-links-hold, one-node-has-a-live-id}
-use Rattle.desk.specs.CallLaws.{MachineTree, passDue, APassUsesNoEarlierBox}
+use Rattle.desk.specs.CallLaws.{passDue, APassUsesNoEarlierBox}
 use Rattle.desk.proofs.NotBrokenStays.{kept-if-not-broken}
 
 not-made-twice : (dirty same : Bool) → (dirty || not same) ≡ true → (not dirty && same) ≡ false

@@ -1,5 +1,4 @@
 -- What holds of every tree whatsoever and of every call, without a history.
-use Prim.Native.Nat.{ℕ}
 use mathlib.Core.Path.{_≡_}
 use mathlib.Core.Bool.{Bool, true, false, _||_, not}
 use mathlib.Core.List.{List, map}
@@ -23,6 +22,10 @@ ARefusedCallChangesNothing = (u : Ui) (c : Call) → (step u c .number ≡ 0 →
 -- A broken tree is refused by 1, and given back.
 abbrev pub ABrokenTreeIsRefused : Type 0
 ABrokenTreeIsRefused = (u : Ui) (c : Call) → broken u ≡ true → (step u c .number ≡ 1) × (step u c .next ≡ u)
+
+-- No other tree is refused by 1.
+abbrev pub OnlyABrokenTreeIsRefusedBy1 : Type 0
+OnlyABrokenTreeIsRefusedBy1 = (u : Ui) (c : Call) → step u c .number ≡ 1 → broken u ≡ true
 
 -- A tree that a machine can hold: its arrays have their lengths. Numbers, links, ids and styles may be any at all.
 pub record MachineTree (u : Ui) : Type 0 where

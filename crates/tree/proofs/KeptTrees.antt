@@ -1,7 +1,7 @@
 -- A tree that is not broken, with arrays of their lengths, in parts: limit, links, looks, stated slots, pool, queue, fields. Each part reads
 -- its own share of the tree, so that a call's law is about what it changes; the calls that leave the links alone keep every part. Assumes nothing.
 use mathlib.Core.Path.{_≡_, refl, sym, subst, _∙_}
-use mathlib.Core.Bool.{Bool, true, false, cond}
+use mathlib.Core.Bool.{true, false}
 use mathlib.Core.List.{List, [], _∷_, _++_}
 use Prim.Native.Nat.{ℕ, _≤_, _<_}
 use native.Mathlib.Omega.{arith}
@@ -12,10 +12,10 @@ use Rattle.field.specs.declared.NodeId.{NodeId}
 use Rattle.field.specs.declared.MaybeId.{MaybeId}
 use Rattle.field.specs.declared.Field.{Field}
 use Rattle.field.proofs.Laws.{empty-field-keeps-the-rules}
-use Rattle.arithmetic.specs.Tests.{all, occ, fromTo, nothing}
+use Rattle.arithmetic.specs.Tests.{all, fromTo, nothing}
 use Rattle.arithmetic.proofs.BoolLaws.{pick-of}
 use Rattle.arena.specs.Slots.{Slots, isLive}
-use Rattle.arena.specs.States.{Appearance, inPool, bareAll, wearAll, backwards}
+use Rattle.arena.specs.States.{Appearance, inPool, backwards}
 use Rattle.arena.specs.Layout.{passed}
 use Rattle.arena.specs.Fields.{fieldOf, reclaimed, claimed}
 use Rattle.arena.specs.Rules.{linked, distinct, ownersWell}
@@ -30,16 +30,16 @@ use Rattle.tree.specs.Calls.{Outcome, guarded, onLive, pooled}
 use Rattle.tree.specs.declared.Ui.{Ui}
 use Rattle.tree.specs.declared.Interaction.{Interaction}
 use Rattle.arena.proofs.Checks.RuleLaws.{occurs-below}
-use Rattle.arena.proofs.Forests.Rounds.{Sized, Inside, visit, a-round-keeps-lengths}
+use Rattle.arena.proofs.Forests.Rounds.{Sized, Inside, a-round-keeps-lengths}
 use Rattle.arena.proofs.Layouts.PassLengths.{a-pass-keeps-the-number-of-layout-slots}
 use Rattle.arena.proofs.Styles.WearLaws.{wearStep, bareStep, wear-all-is-a-round, bare-all-is-a-round}
 use Rattle.tree.proofs.StateLaws.{EachState, a-changed-slot-keeps-of-each, a-round-keeps-of-each}
-use Rattle.tree.proofs.WellLaws.{StatesWell, states-well-by-slot, states-well-together, a-styled-tree-is-well, a-tabled-tree-is-well, a-tree-with-a-new-pool-is-well, a-refreshed-tree-is-well}
+use Rattle.tree.proofs.WellLaws.{StatesWell, states-well-together, a-styled-tree-is-well, a-tabled-tree-is-well, a-tree-with-a-new-pool-is-well, a-refreshed-tree-is-well}
 use Rattle.tree.proofs.RefreshLaws.{three, distinct-slots-are-below, the-slots-of-a-refresh-are-below-the-limit, what-a-refresh-states}
 use Rattle.tree.proofs.StylingLaws.{style-step, table-step}
 use Rattle.tree.proofs.Relation.{AllFields}
-use Rattle.tree.proofs.FieldLaws.{a-test-of-all-is-of-each, a-test-of-each-is-of-all, clearing-keeps-of-each, clearing-keeps-the-number-of-fields, clearing-keeps-owners-apart, clearing-leaves-a-live-nodes-field, a-claim-keeps-of-each, a-claim-keeps-the-number-of-fields, a-claim-keeps-owners-apart, a-nodes-new-field-is-ok, who-has-no-field-owns-nothing}
-use Rattle.tree.proofs.RuleParts.{Rules, a-tree-not-broken-keeps-each-rule, a-tree-that-keeps-each-rule-is-not-broken}
+use Rattle.tree.proofs.FieldLaws.{a-test-of-each-is-of-all, clearing-keeps-of-each, clearing-keeps-the-number-of-fields, clearing-keeps-owners-apart, clearing-leaves-a-live-nodes-field, a-claim-keeps-of-each, a-claim-keeps-the-number-of-fields, a-claim-keeps-owners-apart, a-nodes-new-field-is-ok, who-has-no-field-owns-nothing}
+use Rattle.tree.proofs.RuleParts.{a-tree-that-keeps-each-rule-is-not-broken}
 
 -- ---- the parts
 

@@ -33,3 +33,4 @@ pub use Rattle.arena.proofs.Forests.Starts
 pub use Rattle.arena.proofs.Layouts.PassLaws
 pub use Rattle.arena.proofs.Hits.HitLaws
 pub use Rattle.arena.proofs.Owners.Places
+pub use Rattle.arena.proofs.Styles.GeometryLaws

@@ -1,12 +1,12 @@
 -- What holds of each state slot below a number holds after one slot changed, or a round of them, if the change keeps it. Assumes nothing.
-use mathlib.Core.Path.{_≡_, sym, subst}
+use mathlib.Core.Path.{sym, subst}
 use mathlib.Core.List.{List}
 use Prim.Native.Nat.{ℕ, _<_}
 use lib.ListN.{length, set}
 use mathlib.Core.Bool.{Bool}
 use Rattle.arithmetic.specs.Tests.{occ}
-use Rattle.arena.specs.Styles.{freshState, stateAt}
-use Rattle.arena.specs.States.{Appearance, resetStates}
+use Rattle.arena.specs.Styles.{stateAt}
+use Rattle.arena.specs.States.{Appearance}
 use Rattle.arena.specs.declared.StateSlot.{StateSlot}
 use Rattle.arithmetic.proofs.TestLaws.{eq-cases, zero-cases}
 use Rattle.arena.proofs.Forests.Rounds.{Look, lookAt, Sized, Stepped, Stepping, Inside, visit, a-slot-not-visited-stays, a-slot-visited-is-changed}
