@@ -5,3 +5,4 @@ pub mod Layouts
 pub mod Hits
 pub mod Owners
 pub mod Styles
+pub mod SourceRuns

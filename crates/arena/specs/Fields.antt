@@ -2,6 +2,7 @@
 use Prim.Native.Nat.{ℕ}
 use mathlib.Core.Bool.{Bool, true, false, not, cond}
 use mathlib.Core.List.{List, [], _∷_, map}
+use lib.ListN.{replicate}
 use Rattle.field.specs.Fields.{emptyField, ownField}
 use Rattle.field.specs.declared.NodeId.{NodeId}
 use Rattle.field.specs.declared.MaybeId.{MaybeId}
@@ -45,3 +46,11 @@ changeFirst p c (f ∷ fs) = cond (p f) (c f ∷ fs) (f ∷ changeFirst p c fs)
 
 unfoldable pub claimed : NodeId → List Field → List Field
 claimed d fs = changeFirst vacant (λ (f : Field). ownField d) fs
+
+-- A text: 64 bytes, 0 past the length, and the length.
+pub record Shown : Type 0 where
+  pub bytes : List ℕ
+  pub len : ℕ
+
+abbrev pub noText : Shown
+noText = record { bytes = replicate 64 0; len = 0 }

@@ -4,6 +4,8 @@ use Prim.Native.Nat.{ℕ, suc, _+_}
 use mathlib.Core.Bool.{Bool, false, _&&_, _||_, cond}
 use mathlib.Core.List.{List, [], _∷_}
 use Rattle.field.specs.declared.NodeId.{NodeId}
+use Rattle.field.specs.declared.MaybeId.{MaybeId}
+use Rattle.field.specs.declared.MaybeId.the-variants.{Absent, Present}
 use Rattle.arithmetic.specs.Tests.{same, Maybe, nothing, just}
 
 pub data Forest (X : Type 0) : Type 0 where
@@ -13,6 +15,11 @@ pub data Forest (X : Type 0) : Type 0 where
 -- The id is (i, g).
 abbrev pub hasBoth : NodeId → ℕ → ℕ → Bool
 hasBoth d i g = same i (d .index) && same g (d .generation)
+
+-- The first of two that is there.
+abbrev pub orId : MaybeId → MaybeId → MaybeId
+orId Absent o = o
+orId (Present d) o = Present d
 
 module _ {X : Type 0} where
   -- One list of trees after another.
@@ -52,6 +59,15 @@ module _ {X : Type 0} where
   abbrev pub ids : Forest X → List NodeId
   ids nil = []
   ids (node i g x cs sib) = record { index = i; generation = g } ∷ ids sib
+
+  -- The first of the topmost nodes, and the node after the one that has the id.
+  abbrev pub firstId : Forest X → MaybeId
+  firstId nil = Absent
+  firstId (node i g x cs sib) = Present (record { index = i; generation = g })
+
+  abbrev pub nextId : NodeId → Forest X → MaybeId
+  nextId d nil = Absent
+  nextId d (node i g x cs sib) = cond (hasBoth d i g) (firstId sib) (orId (nextId d cs) (nextId d sib))
 
   -- How many nodes there are.
   abbrev pub size : Forest X → ℕ

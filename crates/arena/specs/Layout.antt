@@ -7,6 +7,7 @@ use lib.ListN.{length, getD, set, take}
 use lib.Signed.{leZ, ltZ}
 use Rattle.arithmetic.specs.Scalar.{addSat, subSat, gapTimes, halfOf, fromInt, maxOf}
 use Rattle.arithmetic.specs.Growth.{planGrowth}
+use Rattle.arithmetic.specs.Tests.{sameZ}
 use Rattle.arena.specs.Slots.{Slots, kidsAt, order}
 use Rattle.arena.specs.Styles.{layoutAt}
 use Rattle.arena.specs.declared.Style.{Style}
@@ -161,6 +162,9 @@ arrangeAll s l (i ∷ is) = arrangeAll s (arrangeAt s l i) is
 -- The root's box is the viewport.
 abbrev pub viewRect : Viewport → Rect
 viewRect v = record { x = pos 0; y = pos 0; width = v .width; height = v .height }
+
+abbrev pub sameView : Viewport → Viewport → Bool
+sameView v w = sameZ (v .width) (w .width) && sameZ (v .height) (w .height)
 
 unfoldable pub passed : Slots → List LayoutSlot → Viewport → List LayoutSlot
 passed s l v =

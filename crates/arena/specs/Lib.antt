@@ -8,4 +8,7 @@ pub mod Fields
 pub mod Rules
 pub mod Forest
 pub mod Nodes
+pub mod History
+pub mod Runs
+pub mod SourceRuns
 pub mod Support

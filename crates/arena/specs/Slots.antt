@@ -56,6 +56,10 @@ isLive limit s d = ltb (d .index) limit && (at s (d .index) .live && same (at s 
 abbrev pub idAt : Slots → ℕ → NodeId
 idAt s i = record { index = i; generation = at s i .generation }
 
+-- The id that stands where there is none.
+abbrev pub nobody : NodeId
+nobody = record { index = 0; generation = 0 }
+
 -- The slots from c on by next links: at most k, up to an index that is no slot.
 unfoldable pub chain : ℕ → Slots → ℕ → List ℕ
 chain zero s c = []

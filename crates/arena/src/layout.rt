@@ -50,6 +50,13 @@ pub(crate) fn holds(x: i32, y: i32, r: Rect) -> bool
     across & down
 }
 
+// Whether two viewports have one size.
+pub fn same_view(v: Viewport, w: Viewport) -> bool
+    ensures { λ r. ⌜ r ≡ laid.sameView v w ⌝ }
+{
+    (v.width == w.width) & (v.height == w.height)
+}
+
 // Where a run starts in free space: at the start where there is none.
 fn offset(a: Align, free: i64) -> i64
     ensures { λ r. ⌜ r ≡ laid.offset a free ⌝ }

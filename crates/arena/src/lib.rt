@@ -12,6 +12,7 @@ pub mod wearing;
 
 ghost use mathlib.Core.Path.{_≡_};
 ghost use Rattle.arena.specs.Styles.{sizedStyle};
+use field::EditOp;
 
 // Which way a node lays out its children.
 pub enum Direction {
@@ -131,4 +132,19 @@ pub struct Pointer {
 pub struct Viewport {
     pub width: i64,
     pub height: i64,
+}
+
+// An event: the pointer at a pixel, a press and a release of the one button, a typed character, an edit.
+pub enum UiEvent {
+    PointerMoved { x: i32, y: i32 },
+    PointerPressed,
+    PointerReleased,
+    TextEntered { ch: u32 },
+    Edit { op: EditOp },
+}
+
+// What a key asks of the field in focus: a character, or an edit.
+pub enum Key {
+    Char(u32),
+    Op(EditOp),
 }

@@ -16,8 +16,8 @@ use Rattle.tree.specs.declared.Ui.{Ui}
 use Rattle.arithmetic.proofs.TestLaws.{bool-cases, same-yes}
 use Rattle.tree.proofs.Ids.{live-just-where-a-node-has-it}
 use Rattle.tree.proofs.NotBroken.{not-broken}
-use Rattle.desk.specs.History.{History, Call, Change, has, unless, refusalOf, refusalOfChange, afterChange, accept, recorded}
-use Rattle.desk.specs.History.Call.{change}
+use Rattle.tree.specs.History.{History, Call, Change, has, unless, refusalOf, refusalOfChange, afterChange, accept, recorded}
+use Rattle.tree.specs.History.Call.{change}
 use Rattle.desk.specs.Demand3.{Step, step, changeStep, silent}
 use Rattle.desk.proofs.Invariant.{Inv, inv-after}
 

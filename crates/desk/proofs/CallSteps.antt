@@ -15,17 +15,17 @@ use Rattle.field.specs.declared.MaybeId.{MaybeId}
 use Rattle.field.specs.declared.MaybeId.the-variants.{Absent, Present}
 use Rattle.field.specs.declared.Field.{Field}
 use Rattle.arithmetic.specs.Tests.{same, δ, all, Maybe, nothing, just}
-use Rattle.tree.specs.Slots.{NIL, idAt, at}
+use Rattle.tree.specs.Slots.{NIL, idAt, at, nobody}
 use Rattle.tree.specs.Styles.{noPatch}
 use Rattle.tree.specs.States.{inPool, sameId}
 use Rattle.tree.specs.Wearing.{styledAt, tabledAt}
-use Rattle.tree.specs.Layout.{passed, viewRect}
+use Rattle.tree.specs.Layout.{passed, viewRect, sameView}
 use Rattle.tree.specs.Forest.{Forest, nil, node, hasBoth, size, anyF, cutOf}
 use Rattle.tree.specs.Nodes.{Info, changeOf, wears, swaps, restyled, withTable, bare, placeF, hasField, bit}
 use Rattle.tree.specs.Fields.{fieldOf, firstField, vacant, reclaimed, claimed}
 use Rattle.tree.specs.Trees.{limitOf, waitingOf, withWaiting, withNodes, withStyles, withPool, withFields, withPass}
 use Rattle.tree.specs.Calls as tree
-use Rattle.tree.specs.Calls.{onLive, nobody, sameView, insertAt, removeAt, pooled, takeField}
+use Rattle.tree.specs.Calls.{onLive, insertAt, removeAt, pooled, takeField}
 use Rattle.tree.specs.declared.Ui.{Ui}
 use Rattle.tree.specs.Types.{Style, StatePatch, Viewport}
 use Rattle.arithmetic.proofs.TestLaws.{bool-cases, same-yes, same-no, eq-cases, δ-other}
@@ -39,13 +39,13 @@ use Rattle.tree.proofs.FieldLaws.{a-field-is-vacant-or-every-field-is-a-live-no
 use Rattle.tree.proofs.FieldParts.{a-field-stays, a-field-is-made}
 use Rattle.desk.specs.Events as desk
 use Rattle.desk.specs.Events.{handled, hitOf, appliedEvent, takeOldest}
-use Rattle.desk.specs.History.{History, Call, Change, has, refusalOf, refusalOfField, refusalOfChange, afterChange, accept, recorded, withStyling, withTree, grown, keepText, fieldCount, rootId, afterEvent}
-use Rattle.desk.specs.History.Call.{insert, change, ask}
-use Rattle.desk.specs.History.Change.{remove, setStyle, setStateTable, setPatchPool, makeField, solve, handle, nextOutput}
+use Rattle.tree.specs.History.{History, Call, Change, has, refusalOf, refusalOfField, refusalOfChange, afterChange, accept, recorded, withStyling, withTree, grown, keepText, fieldCount, rootId, afterEvent}
+use Rattle.tree.specs.History.Call.{insert, change, ask}
+use Rattle.tree.specs.History.Change.{remove, setStyle, setStateTable, setPatchPool, makeField, solve, handle, nextOutput}
 use Rattle.desk.specs.Demand3.{step, Machine, MachineChange}
-use Rattle.desk.specs.declared.UiEvent.{UiEvent}
-use Rattle.desk.specs.declared.UiEvent.the-variants.{PointerMoved, PointerPressed, PointerReleased, TextEntered, Edit}
-use Rattle.desk.specs.declared.Key.the-variants.{Char, Op}
+use Rattle.arena.specs.declared.UiEvent.{UiEvent}
+use Rattle.arena.specs.declared.UiEvent.the-variants.{PointerMoved, PointerPressed, PointerReleased, TextEntered, Edit}
+use Rattle.arena.specs.declared.Key.the-variants.{Char, Op}
 use Rattle.desk.proofs.Invariant.{NamedBy, OwnText, Inv, inv-after, styling-under, same-nodes-each, same-nodes-some, same-nodes-placed, with-nodes, with-styling, with-texts, with-outputs}
 use Rattle.desk.proofs.AnswerLaws.{Kept, AsSaid, accepted-as-said, refused-as-said, guarded-as-said, live-as-said, only-if, only-unless, change-kept}
 use Rattle.desk.proofs.ReadSteps.{asks}

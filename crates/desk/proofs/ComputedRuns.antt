@@ -23,10 +23,10 @@ use Rattle.tree.specs.Calls.{guarded, fresh, newTree}
 use Rattle.desk.specs.Events as desk-Events
 use Rattle.desk.specs.Events.{activated, activate, hitOf, handled}
 use Rattle.desk.specs.Demand3.{step, run}
-use Rattle.desk.specs.History.{Call, History, limitFrom, start, refusalOf, grown, accept, recorded}
-use Rattle.desk.specs.History.Call.{insert, change}
-use Rattle.desk.specs.History.Change.{makeField, solve, handle}
-use Rattle.desk.specs.declared.UiEvent.the-variants.{PointerMoved, PointerPressed, PointerReleased}
+use Rattle.tree.specs.History.{Call, History, limitFrom, start, refusalOf, grown, accept, recorded}
+use Rattle.tree.specs.History.Call.{insert, change}
+use Rattle.tree.specs.History.Change.{makeField, solve, handle}
+use Rattle.arena.specs.declared.UiEvent.the-variants.{PointerMoved, PointerPressed, PointerReleased}
 
 -- The definitions that a run computes with: to unfold this one is to unfold them all.
 computing : Unit {0}

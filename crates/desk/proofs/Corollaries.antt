@@ -22,31 +22,31 @@ use Rattle.arithmetic.specs.Tests.{same, all, Maybe, nothing, just, within}
 use Rattle.tree.specs.States.{inPool, sameId}
 use Rattle.tree.specs.Forest.{Forest, nil, node, hasBoth, hasId, kidsOf, setKidsOf, cutOf, find, size}
 use Rattle.tree.specs.Nodes.{Info, withField, changeNamed, changeOf, wears, restyled, withTable, bare, hasField}
-use Rattle.tree.specs.Layout.{viewRect}
+use Rattle.tree.specs.Layout.{viewRect, sameView}
 use Rattle.tree.specs.Calls as tree
-use Rattle.tree.specs.Calls.{noText, nobody, sameView}
 use Rattle.tree.specs.declared.Ui.{Ui}
 use Rattle.arithmetic.proofs.TestLaws.{bool-cases, eq-cases, same-refl}
 use Rattle.tree.proofs.Payloads.{AllF, all-map, all-app, all-both, all-mapF}
 use Rattle.tree.proofs.Ids.{Known, find-known, find-nothing}
 use Rattle.tree.proofs.FieldLaws.{one-id-is-the-other, to-have-an-id-is-to-be-named-by-it}
-use Rattle.tree.specs.Fields.{fieldOf}
+use Rattle.tree.specs.Fields.{fieldOf, noText}
 use Rattle.tree.proofs.Relation.{textIn}
 use Rattle.desk.specs.Events as desk
-use Rattle.desk.specs.History.{History, Call, Change, Question, has, unless, start, refusalOf, refusalOfField, refusalOfChange, refusalOfQuestion, afterChange, accept, recorded, grown, keepText, keyText, mapMaybe, refresh, afterEvent, padded, ofText, ofNode, textSaid, caretSaid, metresSaid, rectSaid, fieldCount, rootId}
-use Rattle.desk.specs.History.Call.{insert, change, ask}
-use Rattle.desk.specs.History.Change.{remove, setStyle, setStateTable, setPatchPool, makeField, solve, handle, nextOutput}
-use Rattle.desk.specs.History.Question.{fieldText, fieldCursor, metres, rect, live, firstChild, nextSibling, absorb}
+use Rattle.tree.specs.History.{History, Call, Change, Question, has, unless, start, refusalOf, refusalOfField, refusalOfChange, refusalOfQuestion, afterChange, accept, recorded, grown, keepText, keyText, mapMaybe, refresh, afterEvent, padded, ofText, ofNode, textSaid, caretSaid, metresSaid, rectSaid, fieldCount, rootId}
+use Rattle.tree.specs.History.Call.{insert, change, ask}
+use Rattle.tree.specs.History.Change.{remove, setStyle, setStateTable, setPatchPool, makeField, solve, handle, nextOutput}
+use Rattle.tree.specs.History.Question.{fieldText, fieldCursor, metres, rect, live, firstChild, nextSibling, absorb}
 use Rattle.desk.specs.Demand3.{step, run, numbers, feed, given, Machines, follow, refusals, Distinct}
 use Rattle.desk.specs.Keys.{typedOn, textOfKeys, Log, logKey, logEvent, beginAt, logField, loggedChange, logged, logs, noKeys}
-use Rattle.desk.specs.declared.UiEvent.{UiEvent}
-use Rattle.desk.specs.declared.UiEvent.the-variants.{PointerMoved, PointerPressed, PointerReleased, TextEntered, Edit}
-use Rattle.desk.specs.declared.Key.{Key}
-use Rattle.desk.specs.declared.Key.the-variants.{Char, Op}
+use Rattle.arena.specs.declared.UiEvent.{UiEvent}
+use Rattle.arena.specs.declared.UiEvent.the-variants.{PointerMoved, PointerPressed, PointerReleased, TextEntered, Edit}
+use Rattle.arena.specs.declared.Key.{Key}
+use Rattle.arena.specs.declared.Key.the-variants.{Char, Op}
 use Rattle.desk.proofs.Invariant.{OwnName, OwnText, Inv, SameNodes, same-nodes-each, same-nodes-some, same-nodes-placed}
 use Rattle.desk.proofs.AnswerLaws.{Kept}
 use Rattle.desk.proofs.CallSteps.{every-call}
 use Rattle.desk.proofs.Demand3.{starts, demand-3}
+use Rattle.tree.specs.Slots.{nobody}
 
 -- ---- ids
 

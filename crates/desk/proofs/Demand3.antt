@@ -10,22 +10,24 @@ use lib.ListN.{length, getD}
 use Rattle.field.specs.declared.NodeId.{NodeId}
 use Rattle.arithmetic.specs.Tests.{same}
 use Rattle.tree.specs.Calls as tree
-use Rattle.tree.specs.Calls.{fresh, nobody, sameView}
+use Rattle.tree.specs.Calls.{fresh}
 use Rattle.tree.specs.declared.Ui.{Ui}
 use Rattle.arithmetic.proofs.TestLaws.{bool-cases, eq-cases}
 use Rattle.tree.proofs.Starts.{start-root-generation}
 use Rattle.tree.proofs.StartParts.{start-has-links, start-has-names, start-has-styling, start-has-a-pool, start-has-texts, start-has-a-queue}
-use Rattle.desk.specs.History.{History, Call, Change, limitFrom, start, refusalOf, afterChange, accept, recorded, grown, refresh, afterEvent}
-use Rattle.desk.specs.History.Call.{insert, change, ask}
-use Rattle.desk.specs.History.Change.{remove, setStyle, setStateTable, setPatchPool, makeField, solve, handle, nextOutput}
+use Rattle.tree.specs.History.{History, Call, Change, limitFrom, start, refusalOf, afterChange, accept, recorded, grown, refresh, afterEvent}
+use Rattle.tree.specs.History.Call.{insert, change, ask}
+use Rattle.tree.specs.History.Change.{remove, setStyle, setStateTable, setPatchPool, makeField, solve, handle, nextOutput}
 use Rattle.desk.specs.Demand3.{step, run, numbers, feed, idGiven, given, Machines, follow, refusals, Others, Distinct, HoldsFrom, Demand3}
-use Rattle.desk.specs.declared.UiEvent.{UiEvent}
-use Rattle.desk.specs.declared.UiEvent.the-variants.{PointerMoved, PointerPressed, PointerReleased, TextEntered, Edit}
+use Rattle.arena.specs.declared.UiEvent.{UiEvent}
+use Rattle.arena.specs.declared.UiEvent.the-variants.{PointerMoved, PointerPressed, PointerReleased, TextEntered, Edit}
 use Rattle.desk.proofs.Invariant.{Inv}
 use Rattle.desk.proofs.NameLaws.{id-cases}
 use Rattle.desk.proofs.AnswerLaws.{Kept}
 use Rattle.desk.proofs.ReadSteps.{agrees}
 use Rattle.desk.proofs.CallSteps.{every-call}
+use Rattle.tree.specs.Slots.{nobody}
+use Rattle.tree.specs.Layout.{sameView}
 
 -- ---- the start
 

@@ -19,10 +19,10 @@ use Rattle.tree.specs.declared.Interaction.{Interaction}
 use Rattle.tree.specs.Types.{Pointer}
 use Rattle.tree.specs.declared.Ui.{Ui}
 use Rattle.desk.specs.Events.{activated, activate, foldedBy, hasChanged, keyedField, editFold, editField, editFocused, releasedOn, appliedEvent, hitOf}
-use Rattle.desk.specs.declared.UiEvent.{UiEvent}
-use Rattle.desk.specs.declared.UiEvent.the-variants.{PointerMoved, PointerPressed, PointerReleased, TextEntered, Edit}
-use Rattle.desk.specs.declared.Key.{Key}
-use Rattle.desk.specs.declared.Key.the-variants.{Char, Op}
+use Rattle.arena.specs.declared.UiEvent.{UiEvent}
+use Rattle.arena.specs.declared.UiEvent.the-variants.{PointerMoved, PointerPressed, PointerReleased, TextEntered, Edit}
+use Rattle.arena.specs.declared.Key.{Key}
+use Rattle.arena.specs.declared.Key.the-variants.{Char, Op}
 
 -- Slots, boxes and pointer are what they were.
 pub record Stays (u v : Ui) : Type 0 where

@@ -12,14 +12,13 @@ use Rattle.field.specs.declared.NodeId.{NodeId}
 use Rattle.field.specs.declared.MaybeId.{MaybeId}
 use Rattle.field.specs.declared.Field.{Field}
 use Rattle.arithmetic.specs.Tests.{occ, Maybe, nothing, just}
-use Rattle.tree.specs.Slots.{Slots, at}
+use Rattle.tree.specs.Slots.{Slots, at, nobody}
 use Rattle.tree.specs.Styles.{freshState, stateAt}
 use Rattle.tree.specs.Forest.{Forest, mapF}
 use Rattle.tree.specs.Nodes.{Info, placeF, withBox}
 use Rattle.tree.specs.Fields.{fieldOf}
 use Rattle.tree.specs.Rules.{distinct}
 use Rattle.tree.specs.Trees.{limitOf, poolOf, withInteraction, withFields, withWaiting}
-use Rattle.tree.specs.Calls.{nobody}
 use Rattle.tree.specs.declared.Ui.{Ui}
 use Rattle.tree.specs.Types.{Rect, LayoutSlot, StateSlot, StatePatch, Viewport}
 use Rattle.tree.specs.declared.Interaction.{Interaction}
@@ -31,7 +30,7 @@ use Rattle.tree.proofs.WellLaws.{StatesWell}
 use Rattle.tree.proofs.Relation.{Links, Naming, Styled, Pool, Texts, Queue, textIn}
 use Rattle.tree.proofs.ShapeParts.{links-after, links-of-shape, naming-by-shape, texts-by-shape}
 use Rattle.tree.proofs.FieldParts.{retexted, texts-keep-styling, texts-keep-naming}
-use Rattle.desk.specs.History.{History, Styling, Input, withStyling, withNames, withInput, withTree, idNamed}
+use Rattle.tree.specs.History.{History, Styling, Input, withStyling, withNames, withInput, withTree, idNamed}
 
 -- a name that was made
 abbrev pub NameIn : List NodeId → Maybe ℕ → Type 0

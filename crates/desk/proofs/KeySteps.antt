@@ -20,7 +20,6 @@ use Rattle.tree.specs.Forest.{Forest, nil, node, hasId, mapF}
 use Rattle.tree.specs.Nodes.{Info, withField, isNamed, changeNamed}
 use Rattle.tree.specs.Fields.{owns, fieldOf, changeFirst}
 use Rattle.tree.specs.Trees.{withInteraction, withFields}
-use Rattle.tree.specs.Calls.{nobody}
 use Rattle.tree.specs.declared.Ui.{Ui}
 use Rattle.tree.specs.declared.Interaction.{Interaction}
 use Rattle.arithmetic.proofs.TestLaws.{bool-cases}
@@ -29,11 +28,12 @@ use Rattle.tree.proofs.Ids.{live-just-where-a-node-has-it}
 use Rattle.tree.proofs.Relation.{Texts}
 use Rattle.tree.proofs.FieldParts.{retexted, edit-keeps-texts, no-edit-of-a-dead-id, no-edit-without-a-field, unchanged-at-each-node}
 use Rattle.desk.specs.Events.{keyedField, hasChanged, editFold, foldedBy, editField, editFocused}
-use Rattle.desk.specs.History.{History, withTree, idNamed, keyText, mapMaybe, typedInto}
-use Rattle.desk.specs.declared.Key.{Key}
-use Rattle.desk.specs.declared.Key.the-variants.{Char, Op}
+use Rattle.tree.specs.History.{History, withTree, idNamed, keyText, mapMaybe, typedInto}
+use Rattle.arena.specs.declared.Key.{Key}
+use Rattle.arena.specs.declared.Key.the-variants.{Char, Op}
 use Rattle.desk.proofs.Invariant.{NameIn, InputAgrees, Inv, with-input, with-texts}
 use Rattle.desk.proofs.NameLaws.{ids-say-the-names}
+use Rattle.tree.specs.Slots.{nobody}
 
 -- ---- what a key does to a field
 

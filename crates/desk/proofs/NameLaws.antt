@@ -9,13 +9,12 @@ use Rattle.field.specs.declared.NodeId.{NodeId}
 use Rattle.field.specs.declared.MaybeId.{MaybeId}
 use Rattle.field.specs.declared.MaybeId.the-variants.{Present}
 use Rattle.arithmetic.specs.Tests.{Maybe, nothing, just}
-use Rattle.tree.specs.Slots.{Slots, at, idAt}
+use Rattle.tree.specs.Slots.{Slots, at, idAt, nobody}
 use Rattle.tree.specs.States.{sameId, isId, bitsOf}
 use Rattle.tree.specs.Wearing.{bitsAt}
 use Rattle.tree.specs.Forest.{Forest}
 use Rattle.tree.specs.Nodes.{Info, isNamed, bitsFor}
 use Rattle.tree.specs.Trees.{limitOf}
-use Rattle.tree.specs.Calls.{nobody}
 use Rattle.tree.specs.declared.Ui.{Ui}
 use Rattle.arithmetic.proofs.TestLaws.{eq-cases, same-yes}
 use Rattle.tree.proofs.ForestLaws.{cnt}
@@ -24,7 +23,7 @@ use Rattle.tree.proofs.Ids.{nodes-have-their-slots-generation}
 use Rattle.tree.proofs.HitLaws.{Names}
 use Rattle.tree.proofs.HitLaws.Names.{neither, one-node}
 use Rattle.tree.proofs.Relation.{Below, Links, Naming}
-use Rattle.desk.specs.History.{idNamed}
+use Rattle.tree.specs.History.{idNamed}
 use Rattle.desk.proofs.Invariant.{NameIn, NamedBy, OwnName}
 
 pub equal-ids-are-the-same : (d e : NodeId) → d ≡ e → sameId d e ≡ true

@@ -13,9 +13,9 @@ use Rattle.tree.specs.Types.{Rect}
 use Rattle.arithmetic.proofs.TestLaws.{bool-cases}
 use Rattle.tree.proofs.ReadParts.{live-answers-whether-a-node-has-it, children-by-the-links-are-the-nodes, field-text-answers-the-nodes-text, field-cursor-answers-the-nodes-caret, metres-of-the-field-are-the-nodes, rect-answers-the-nodes-box}
 use Rattle.desk.specs.Events as desk
-use Rattle.desk.specs.History.{History, Question, refusalOf, refusalOfQuestion, accept, recorded, textSaid, caretSaid, metresSaid, rectSaid}
-use Rattle.desk.specs.History.Call.{ask}
-use Rattle.desk.specs.History.Question.{fieldText, fieldCursor, metres, rect, live, firstChild, nextSibling, absorb}
+use Rattle.tree.specs.History.{History, Question, refusalOf, refusalOfQuestion, accept, recorded, textSaid, caretSaid, metresSaid, rectSaid}
+use Rattle.tree.specs.History.Call.{ask}
+use Rattle.tree.specs.History.Question.{fieldText, fieldCursor, metres, rect, live, firstChild, nextSibling, absorb}
 use Rattle.desk.specs.Demand3.{step, numberAsked, Agree}
 use Rattle.desk.proofs.Invariant.{Inv, inv-after}
 use Rattle.desk.proofs.AnswerLaws.{Kept, AsSaid, sound, guarded-is, accepted-as-said, live-as-said}

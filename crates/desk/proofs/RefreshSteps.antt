@@ -15,7 +15,7 @@ use Rattle.tree.proofs.HitLaws.{Names, the-hit-test-names-the-forests-node}
 use Rattle.tree.proofs.Relation.{Styled}
 use Rattle.tree.proofs.StylingParts.{refresh-keeps-styling, refresh-dirties}
 use Rattle.desk.specs.Events.{hitOf}
-use Rattle.desk.specs.History.{History, hitName, bitsIn, refresh}
+use Rattle.tree.specs.History.{History, hitName, bitsIn, refresh}
 use Rattle.desk.proofs.Invariant.{NamedBy, Inv, styling-under, same-nodes-each, with-styling}
 use Rattle.desk.proofs.NameLaws.{hit-is-named, bits-by-names, no-bits-of-dead-slots}
 

@@ -16,13 +16,14 @@ use Rattle.arithmetic.specs.Tests.{same}
 use Rattle.tree.specs.States.{sameId}
 use Rattle.tree.specs.Forest.{hasId, kidsOf, ids}
 use Rattle.tree.specs.Calls as tree
-use Rattle.tree.specs.Calls.{Outcome, nobody}
+use Rattle.tree.specs.Calls.{Outcome}
 use Rattle.tree.specs.declared.Ui.{Ui}
 use Rattle.desk.specs.Events as desk
-use Rattle.desk.specs.History.{History, Call, Change, Question, start, refusalOf, recorded, textSaid, caretSaid, metresSaid, rectSaid, idNamed}
-use Rattle.desk.specs.History.Call.{insert, change, ask}
-use Rattle.desk.specs.History.Change.{remove, setStyle, setStateTable, setPatchPool, makeField, solve, handle, nextOutput}
-use Rattle.desk.specs.History.Question.{fieldText, fieldCursor, metres, rect, live, firstChild, nextSibling, absorb}
+use Rattle.tree.specs.History.{History, Call, Change, Question, start, refusalOf, recorded, textSaid, caretSaid, metresSaid, rectSaid, idNamed}
+use Rattle.tree.specs.History.Call.{insert, change, ask}
+use Rattle.tree.specs.History.Change.{remove, setStyle, setStateTable, setPatchPool, makeField, solve, handle, nextOutput}
+use Rattle.tree.specs.History.Question.{fieldText, fieldCursor, metres, rect, live, firstChild, nextSibling, absorb}
+use Rattle.tree.specs.Slots.{nobody}
 
 -- ---- the calls, by the definitions that the contracts cite
 

@@ -25,10 +25,10 @@ use Rattle.tree.specs.Calls.{Outcome, gives, guarded, onField}
 use Rattle.tree.specs.declared.Ui.{Ui}
 use Rattle.tree.specs.Types.{Pointer}
 use Rattle.tree.specs.declared.Interaction.{Interaction}
-use Rattle.desk.specs.declared.UiEvent.{UiEvent}
-use Rattle.desk.specs.declared.UiEvent.the-variants.{PointerMoved, PointerPressed, PointerReleased, TextEntered, Edit}
-use Rattle.desk.specs.declared.Key.{Key}
-use Rattle.desk.specs.declared.Key.the-variants.{Char, Op}
+use Rattle.arena.specs.declared.UiEvent.{UiEvent}
+use Rattle.arena.specs.declared.UiEvent.the-variants.{PointerMoved, PointerPressed, PointerReleased, TextEntered, Edit}
+use Rattle.arena.specs.declared.Key.{Key}
+use Rattle.arena.specs.declared.Key.the-variants.{Char, Op}
 
 -- The interaction with some of it changed.
 abbrev pub pointedAt : Interaction → Pointer → Interaction

@@ -7,13 +7,13 @@ use Rattle.field.specs.declared.NodeId.{NodeId}
 use Rattle.arithmetic.specs.Tests.{same, Maybe, nothing, just}
 use Rattle.tree.specs.Forest.{find}
 use Rattle.tree.specs.Nodes.{Info}
-use Rattle.desk.specs.History.{History, Call, Change, refusalOf, recorded, sameName, keyText}
-use Rattle.desk.specs.History.Call.{insert, change, ask}
-use Rattle.desk.specs.History.Change.{remove, setStyle, setStateTable, setPatchPool, makeField, solve, handle, nextOutput}
-use Rattle.desk.specs.declared.UiEvent.{UiEvent}
-use Rattle.desk.specs.declared.UiEvent.the-variants.{PointerMoved, PointerPressed, PointerReleased, TextEntered, Edit}
-use Rattle.desk.specs.declared.Key.{Key}
-use Rattle.desk.specs.declared.Key.the-variants.{Char, Op}
+use Rattle.tree.specs.History.{History, Call, Change, refusalOf, recorded, sameName, keyText}
+use Rattle.tree.specs.History.Call.{insert, change, ask}
+use Rattle.tree.specs.History.Change.{remove, setStyle, setStateTable, setPatchPool, makeField, solve, handle, nextOutput}
+use Rattle.arena.specs.declared.UiEvent.{UiEvent}
+use Rattle.arena.specs.declared.UiEvent.the-variants.{PointerMoved, PointerPressed, PointerReleased, TextEntered, Edit}
+use Rattle.arena.specs.declared.Key.{Key}
+use Rattle.arena.specs.declared.Key.the-variants.{Char, Op}
 
 -- The text that keys make of an empty one.
 abbrev pub typedOn : Text → List Key → Text

@@ -1,6 +1,5 @@
 pub mod Events
 pub mod Support
-pub mod History
 pub mod Demand3
 pub mod CallLaws
 pub mod Keys

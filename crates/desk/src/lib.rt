@@ -8,6 +8,8 @@ ghost use Rattle.field.specs.Metres.{answerOf};
 ghost use Rattle.tree.specs.Answers.{changedOf};
 ghost use Rattle.desk.specs.Answers.{takenOf, fingerprintOf};
 ghost use Rattle.desk.specs.Events as calls;
+pub use arena::Key;
+pub use arena::UiEvent;
 use arithmetic::fold::StateHash;
 use field::EditOp;
 use field::Field;
@@ -24,21 +26,6 @@ use tree::fields;
 use tree::input;
 use tree::rules;
 use tree::wearing;
-
-// An event: the pointer at a pixel, a press and a release of the one button, a typed character, an edit.
-pub enum UiEvent {
-    PointerMoved { x: i32, y: i32 },
-    PointerPressed,
-    PointerReleased,
-    TextEntered { ch: u32 },
-    Edit { op: EditOp },
-}
-
-// What a key asks of the field in focus: a character, or an edit.
-pub enum Key {
-    Char(u32),
-    Op(EditOp),
-}
 
 // What an event changes of a tree, before the bits are refreshed.
 pub(crate) struct Parts {

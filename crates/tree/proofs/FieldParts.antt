@@ -11,14 +11,13 @@ use Rattle.field.specs.declared.NodeId.{NodeId}
 use Rattle.field.specs.declared.Field.{Field}
 use Rattle.field.proofs.Laws.{empty-field-keeps-the-rules}
 use Rattle.arithmetic.specs.Tests.{occ, Maybe, nothing, just}
-use Rattle.arena.specs.Slots.{Slots, isLive}
+use Rattle.arena.specs.Slots.{Slots, isLive, nobody}
 use Rattle.arena.specs.Styles.{layoutAt}
 use Rattle.arena.specs.States.{entryOf, sameId}
 use Rattle.arena.specs.Forest.{Forest, nil, node, hasBoth, hasId, mapF}
 use Rattle.arena.specs.Nodes.{Info, withField, changeOf}
 use Rattle.arena.specs.Fields.{owns, fieldOf, firstField, vacant, reclaimed, claimed, changeFirst}
 use Rattle.tree.specs.Trees.{limitOf, statedOf}
-use Rattle.tree.specs.Calls.{nobody}
 use Rattle.tree.specs.declared.Ui.{Ui}
 use Rattle.arithmetic.proofs.TestLaws.{bool-cases}
 use Rattle.arena.proofs.Forests.Payloads.{AllF, all-map, all-both, all-mapF, shape, shape-map, cnt-shape}

@@ -14,11 +14,11 @@ use Rattle.field.specs.declared.MaybeId.{MaybeId}
 use Rattle.arithmetic.specs.Tests.{δ, occ}
 use Rattle.arena.specs.Forest.{Forest, nil, node, app, hasId, kidsOf, setKidsOf, size}
 use Rattle.arena.specs.Nodes.{Info, newInfo}
-use Rattle.arena.specs.Slots.{NIL, Slots, at, idAt}
+use Rattle.arena.specs.Slots.{NIL, Slots, at, idAt, nobody}
 use Rattle.arena.specs.Styles.{freshLayout, freshState, freshStyle, layoutAt}
 use Rattle.arena.specs.Fields.{fieldOf}
 use Rattle.tree.specs.Trees.{limitOf, statedOf, withNodes}
-use Rattle.tree.specs.Calls.{nobody, insertAt}
+use Rattle.tree.specs.Calls.{insertAt}
 use Rattle.tree.specs.declared.Ui.{Ui}
 use Rattle.arena.specs.declared.LayoutSlot.{LayoutSlot}
 use Rattle.arena.specs.declared.StateSlot.{StateSlot}

@@ -22,9 +22,9 @@ use Rattle.arena.specs.Forest.{Forest, nil, node, hasBoth, hasId, kidsOf, find,
 use Rattle.arena.specs.Nodes.{Info}
 use Rattle.arena.specs.Slots.{NIL, Slots, at}
 use Rattle.arena.specs.Styles.{noRect, layoutAt}
-use Rattle.arena.specs.Fields.{firstField, owns, fieldOf}
+use Rattle.arena.specs.Fields.{firstField, owns, fieldOf, Shown, noText}
 use Rattle.tree.specs.Broken.{broken}
-use Rattle.tree.specs.Calls.{Outcome, Shown, noText, shown, gives, guarded, onLive, ofField, onField, fieldText, fieldCursor, rect, live, firstChild, nextSibling}
+use Rattle.tree.specs.Calls.{Outcome, shown, gives, guarded, onLive, ofField, onField, fieldText, fieldCursor, rect, live, firstChild, nextSibling}
 use Rattle.tree.specs.declared.Ui.{Ui}
 use Rattle.arena.specs.declared.Slot.{Slot}
 use Rattle.arithmetic.proofs.TestLaws.{δ-refl, bool-cases}

@@ -11,7 +11,7 @@ use Rattle.field.specs.declared.MaybeId.{MaybeId}
 use Rattle.field.specs.declared.MaybeId.the-variants.{Absent, Present}
 use Rattle.field.specs.declared.Field.{Field}
 use Rattle.arithmetic.specs.Tests.{occ, Maybe, nothing, just}
-use Rattle.arena.specs.Slots.{Slots, at}
+use Rattle.arena.specs.Slots.{Slots, at, nobody}
 use Rattle.arena.specs.Styles.{freshState, stateAt}
 use Rattle.tree.specs.Wearing.{appearanceOf}
 use Rattle.arena.specs.Forest.{Forest, size}
@@ -19,7 +19,6 @@ use Rattle.arena.specs.Nodes.{Info}
 use Rattle.arena.specs.Fields.{fieldOf}
 use Rattle.arena.specs.Rules.{distinct, ownersWell}
 use Rattle.tree.specs.Trees.{limitOf, statedOf}
-use Rattle.tree.specs.Calls.{nobody}
 use Rattle.tree.specs.declared.Ui.{Ui}
 use Rattle.arena.proofs.Forests.ForestLaws.{cnt}
 use Rattle.arena.proofs.Forests.Relations.{Rel}

@@ -13,10 +13,10 @@ use Rattle.field.specs.declared.MaybeId.{MaybeId}
 use Rattle.arithmetic.specs.Tests.{occ}
 use Rattle.arena.specs.Forest.{Forest, hasId, cutOf}
 use Rattle.arena.specs.Nodes.{Info}
-use Rattle.arena.specs.Slots.{at, unlink, freeOrder, freeing}
+use Rattle.arena.specs.Slots.{at, unlink, freeOrder, freeing, nobody}
 use Rattle.arena.specs.Styles.{freshState, freshStyle, stateAt}
 use Rattle.tree.specs.Trees.{limitOf, withNodes}
-use Rattle.tree.specs.Calls.{nobody, removeAt}
+use Rattle.tree.specs.Calls.{removeAt}
 use Rattle.arena.specs.States.{resetStates}
 use Rattle.tree.specs.declared.Ui.{Ui}
 use Rattle.arena.specs.declared.StateSlot.{StateSlot}

@@ -8,12 +8,11 @@ use Rattle.field.specs.declared.NodeId.{NodeId}
 use Rattle.field.specs.declared.MaybeId.{MaybeId}
 use Rattle.field.specs.declared.MaybeId.the-variants.{Absent, Present}
 use Rattle.field.specs.declared.Field.{Field}
-use Rattle.arena.specs.Slots.{Slots}
+use Rattle.arena.specs.Slots.{Slots, nobody}
 use Rattle.arena.specs.Forest.{Forest, size}
 use Rattle.arena.specs.Nodes.{Info}
 use Rattle.arena.specs.Fields.{fieldOf}
 use Rattle.tree.specs.Trees.{limitOf}
-use Rattle.tree.specs.Calls.{nobody}
 use Rattle.tree.specs.declared.Ui.{Ui}
 use Rattle.arena.proofs.Forests.Payloads.{AllF, shape, shape-size, cnt-shape, rel-shape}
 use Rattle.tree.proofs.Relation.{Below, BelowMaybe, Links, Naming, Ruled, AllFields, textIn, Texts}

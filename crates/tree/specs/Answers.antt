@@ -9,12 +9,12 @@ use Rattle.text.specs.declared.refusal.Verdict.the-variants.{Accepted, Refused}
 use Rattle.field.specs.declared.NodeId.{NodeId}
 use Rattle.field.specs.declared.MaybeId.{MaybeId}
 use Rattle.field.specs.declared.MaybeId.the-variants.{Absent, Present}
-use Rattle.arena.specs.Slots.{isLive}
+use Rattle.arena.specs.Slots.{isLive, nobody}
 use Rattle.tree.specs.Broken.{broken}
 use Rattle.tree.specs.Trees.{limitOf}
 use Rattle.arena.specs.Styles.{noRect}
 use Rattle.tree.specs.declared.Ui.{Ui}
-use Rattle.tree.specs.Calls.{Outcome, nobody, Shown}
+use Rattle.tree.specs.Calls.{Outcome}
 use Rattle.arena.specs.declared.Rect.{Rect}
 use Rattle.arena.specs.Support.Places.{placeOf}
 use Rattle.arena.specs.declared.fields.Place.{Place}
@@ -36,6 +36,7 @@ use Rattle.tree.specs.declared.answers.Liveness.{Liveness}
 use Rattle.tree.specs.declared.answers.Liveness.the-variants as life
 use Rattle.tree.specs.declared.answers.Neighbour.{Neighbour}
 use Rattle.tree.specs.declared.answers.Neighbour.the-variants as near
+use Rattle.arena.specs.Fields.{Shown}
 
 -- Whether a call on a node is refused before anything else.
 unfoldable pub precheck : Ui → NodeId → Verdict

@@ -14,13 +14,13 @@ use Rattle.field.specs.declared.NodeId.{NodeId}
 use Rattle.field.specs.declared.MaybeId.{MaybeId}
 use Rattle.field.specs.declared.MaybeId.the-variants.{Absent, Present}
 use Rattle.field.specs.declared.Field.{Field}
-use Rattle.arithmetic.specs.Tests.{same, sameZ, all, fromTo, finalOr, Maybe, nothing, just}
-use Rattle.arena.specs.Slots.{NIL, at, put, used, isLive, idAt, linkLast, unlink, freeing, freed, newSlots}
+use Rattle.arithmetic.specs.Tests.{same, all, fromTo, finalOr, Maybe, nothing, just}
+use Rattle.arena.specs.Slots.{NIL, at, put, used, isLive, idAt, nobody, linkLast, unlink, freeing, freed, newSlots}
 use Rattle.arena.specs.Styles.{noRect, freshStyle, freshLayout, freshState, layoutAt}
 use Rattle.arena.specs.States.{inPool, bareAll, resetStates}
 use Rattle.tree.specs.Wearing.{appearanceOf, styledAt, tabledAt}
-use Rattle.arena.specs.Layout.{passed}
-use Rattle.arena.specs.Fields.{fieldOf, vacant, reclaimed, claimed, firstField}
+use Rattle.arena.specs.Layout.{sameView, passed}
+use Rattle.arena.specs.Fields.{fieldOf, vacant, reclaimed, claimed, firstField, Shown, noText}
 use Rattle.tree.specs.Trees.{limitOf, withNodes, withStyles, withPool, withFields, withPass}
 use Rattle.tree.specs.Broken.{broken}
 use Rattle.tree.specs.declared.Ui.{Ui}
@@ -39,9 +39,6 @@ gives u v = record { next = u; answer = accepted v }
 
 abbrev pub refuses : {A : Type 0} → Ui → Refusal → A → Outcome A
 refuses u word none = record { next = u; answer = refused word none }
-
-abbrev pub nobody : NodeId
-nobody = record { index = 0; generation = 0 }
 
 -- A broken tree is refused; then a node that is not live.
 unfoldable pub guarded : {A : Type 0} → Ui → A → Outcome A → Outcome A
@@ -134,14 +131,6 @@ ofField u none read (just f) = read f
 unfoldable pub onField : {A : Type 0} → Ui → NodeId → A → (Field → Outcome A) → Outcome A
 onField u d none read = onLive u d none (ofField u none read (fieldOf d (u .fields)))
 
--- A text: 64 bytes, 0 past the length, and the length.
-pub record Shown : Type 0 where
-  pub bytes : List ℕ
-  pub len : ℕ
-
-abbrev pub noText : Shown
-noText = record { bytes = replicate 64 0; len = 0 }
-
 abbrev pub shown : Field → Shown
 shown f = record { bytes = shownOf f; len = f .len }
 
@@ -150,9 +139,6 @@ fieldText u d = onField u d noText (λ f. gives u (shown f))
 
 unfoldable pub fieldCursor : Ui → NodeId → Outcome ℕ
 fieldCursor u d = onField u d 0 (λ f. gives u (f .cursor))
-
-abbrev pub sameView : Viewport → Viewport → Bool
-sameView v w = sameZ (v .width) (w .width) && sameZ (v .height) (w .height)
 
 unfoldable pub solve : Ui → Viewport → Outcome ℕ
 solve u v =

@@ -16,4 +16,5 @@ pub use Rattle.arena.specs.Fields
 pub use Rattle.arena.specs.Rules
 pub use Rattle.arena.specs.Forest
 pub use Rattle.arena.specs.Nodes
+pub use Rattle.arena.specs.History
 pub use Rattle.arena.specs.Support.Places

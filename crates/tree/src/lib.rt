@@ -8,7 +8,7 @@ pub mod wearing;
 
 ghost use mathlib.Core.Path.{_≡_};
 ghost use Rattle.tree.specs.Answers.{precheck, fieldPlace, changedOf, insertedOf, rectOf, livenessOf, neighbourOf, fieldTextOf, caretAnswer};
-ghost use Rattle.tree.specs.Calls.{newTree, insert, remove, live, rect, firstChild, nextSibling, fieldText, fieldCursor, makeField, takeField, solve, sameView, setStyle, setStateTable, setPatchPool};
+ghost use Rattle.tree.specs.Calls.{newTree, insert, remove, live, rect, firstChild, nextSibling, fieldText, fieldCursor, makeField, takeField, solve, setStyle, setStateTable, setPatchPool};
 ghost use Rattle.arithmetic.specs.Tests.{nothing};
 use answers::Caret;
 use answers::Changed;
@@ -34,6 +34,7 @@ pub use arena::Style;
 pub use arena::Viewport;
 pub use arena::fields;
 use arena::layout;
+use arena::layout::same_view;
 pub use arena::links;
 use arena::nodes::rect_at;
 pub use arena::state;
@@ -83,12 +84,6 @@ pub struct Ui {
     pub live: u32,
     pub limits: UiLimits,
     pub fields: [Field; 8],
-}
-
-fn same_view(v: Viewport, w: Viewport) -> bool
-    ensures { λ r. ⌜ r ≡ sameView v w ⌝ }
-{
-    (v.width == w.width) & (v.height == w.height)
 }
 
 impl Ui {

@@ -9,7 +9,7 @@ use Rattle.field.specs.declared.NodeId.{NodeId}
 use Rattle.field.specs.declared.MaybeId.{MaybeId}
 use Rattle.field.specs.declared.MaybeId.the-variants.{Absent, Present}
 use Rattle.arithmetic.specs.Tests.{same}
-use Rattle.arena.specs.Forest.{Forest, nil, node, hasBoth, app, hasId, kidsOf, ids}
+use Rattle.arena.specs.Forest.{Forest, nil, node, hasBoth, orId, app, hasId, kidsOf, ids, firstId, nextId}
 use Rattle.arena.specs.Slots.{NIL, Slots, at, idAt, kidsAt}
 use Rattle.arena.specs.declared.Slot.{Slot}
 use Rattle.arithmetic.proofs.TestLaws.{same-no, same-refl, δ-refl, eq-cases, zero-cases}
@@ -23,25 +23,11 @@ use Rattle.arena.proofs.Forests.Ids.{id-by-index, live-id, kids-of-a-li
 abbrev pub linkId : Slots → ℕ → MaybeId
 linkId s c = cond (same c NIL) Absent (Present (idAt s c))
 
-abbrev pub orId : MaybeId → MaybeId → MaybeId
-orId Absent o = o
-orId (Present d) o = Present d
-
 or-absent : (o : MaybeId) → orId o Absent ≡ o
 or-absent Absent = refl
 or-absent (Present d) = refl
 
 module _ {X : Type 0} where
-  -- the first of the topmost nodes
-  abbrev pub firstId : Forest X → MaybeId
-  firstId nil = Absent
-  firstId (node i g x cs sib) = Present (record { index = i; generation = g })
-
-  -- the node after the one that has the id
-  abbrev pub nextId : NodeId → Forest X → MaybeId
-  nextId d nil = Absent
-  nextId d (node i g x cs sib) = cond (hasBoth d i g) (firstId sib) (orId (nextId d cs) (nextId d sib))
-
   ids-tops : (a : Slots) (f : Forest X) (par pv nx : ℕ) → SegR a par pv f nx → map (idAt a) (tops f) ≡ ids f
   ids-tops a nil par pv nx r = refl
   ids-tops a (node i g x cs sib) par pv nx r =

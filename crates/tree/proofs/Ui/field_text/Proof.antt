@@ -3,11 +3,12 @@ use mathlib.Core.Path.{sym, ap, _∙_}
 use mathlib.Core.List.{List}
 use Prim.Native.Nat.{ℕ}
 use Rattle.text.specs.Refusal.{accepted}
-use Rattle.tree.specs.Calls.{Outcome, Shown, fieldText}
+use Rattle.tree.specs.Calls.{Outcome, fieldText}
 use Rattle.tree.proofs.TakenLaws.{a-read-is-refused, a-read-finds-the-field}
 use borrow.Author.Needs.{needs}
 use Rattle.tree.proofs.Ui.field_text.Statement.{statement}
 use Rattle.tree.proofs.Ui.field_text.Tie as tie
+use Rattle.arena.specs.Fields.{Shown}
 
 field-place-requires : tie.Need-field-place-requires
 field-place-requires c κs = search needs

@@ -6,8 +6,8 @@ use Rattle.tree.proofs.Prechecks.{refused-at-once, not-refused, not-bro
 use Rattle.arithmetic.proofs.TestLaws.{same-yes, same-no}
 use Rattle.text.specs.declared.refusal.Refusal.the-variants.{Full}
 use Rattle.field.specs.declared.NodeId.{NodeId}
-use Rattle.arena.specs.Slots.{NIL, idAt}
-use Rattle.tree.specs.Calls.{Outcome, gives, refuses, nobody, insert, insertAt}
+use Rattle.arena.specs.Slots.{NIL, idAt, nobody}
+use Rattle.tree.specs.Calls.{Outcome, gives, refuses, insert, insertAt}
 use Rattle.tree.specs.declared.Ui.{Ui}
 use borrow.Author.Needs.{needs}
 use Rattle.tree.proofs.Ui.insert.Statement.{statement}

@@ -2,10 +2,11 @@
 use mathlib.Core.Path.{_≡_, sym, ap, _∙_}
 use mathlib.Core.Bool.{Bool, true, false, _&&_, not}
 use Rattle.tree.specs.Trees.{withPass}
-use Rattle.tree.specs.Calls.{guarded, sameView, solve}
+use Rattle.tree.specs.Calls.{guarded, solve}
 use borrow.Author.Needs.{needs}
 use Rattle.tree.proofs.Ui.solve.Statement.{statement}
 use Rattle.tree.proofs.Ui.solve.Tie as tie
+use Rattle.arena.specs.Layout.{sameView}
 
 broken-requires : tie.Need-broken-requires
 broken-requires c κs = search needs

@@ -2,9 +2,9 @@
 use mathlib.Core.Path.{ap₂}
 use mathlib.Core.Bool.{_&&_}
 use borrow.Author.Needs.{needs}
 use Rattle.arena.proofs.Styles.Raws.{same-by-bits}
-use Rattle.tree.proofs.same_view.Statement.{statement}
-use Rattle.tree.proofs.same_view.Tie as tie
+use Rattle.arena.proofs.layout.same_view.Statement.{statement}
+use Rattle.arena.proofs.layout.same_view.Tie as tie
 
 returns : tie.Need-returns
 returns c =

@@ -15,17 +15,22 @@ use Rattle.field.specs.declared.NodeId.{NodeId}
 use Rattle.field.specs.declared.MaybeId.{MaybeId}
 use Rattle.field.specs.declared.MaybeId.the-variants.{Absent, Present}
 use Rattle.arithmetic.specs.Tests.{same, all, Maybe, nothing, just}
-use Rattle.tree.specs.Styles.{noPatch, noRect}
-use Rattle.tree.specs.States.{inPool, sameId}
-use Rattle.tree.specs.Layout.{viewRect}
-use Rattle.tree.specs.Forest.{Forest, nil, node, app, hasBoth, hasId, kidsOf, setKidsOf, cutOf, find, size, mapF, anyF}
-use Rattle.tree.specs.Nodes.{Info, newInfo, withField, changeOf, changeNamed, wears, swaps, bitsFor, restyled, withTable, bare, placeF, hitF, hasField, bit}
-use Rattle.tree.specs.Calls.{Shown, noText, nobody, sameView}
-use Rattle.tree.specs.Types.{Style, Rect, StatePatch, Viewport, Pointer}
-use Rattle.desk.specs.declared.UiEvent.{UiEvent}
-use Rattle.desk.specs.declared.UiEvent.the-variants.{PointerMoved, PointerPressed, PointerReleased, TextEntered, Edit}
-use Rattle.desk.specs.declared.Key.{Key}
-use Rattle.desk.specs.declared.Key.the-variants.{Char, Op}
+use Rattle.arena.specs.Styles.{noPatch, noRect}
+use Rattle.arena.specs.States.{inPool, sameId}
+use Rattle.arena.specs.Layout.{viewRect, sameView}
+use Rattle.arena.specs.Forest.{Forest, nil, node, app, hasBoth, hasId, kidsOf, setKidsOf, cutOf, find, firstId, nextId, size, mapF, anyF}
+use Rattle.arena.specs.Nodes.{Info, newInfo, withField, changeOf, changeNamed, wears, swaps, bitsFor, restyled, withTable, bare, placeF, hitF, hasField, bit}
+use Rattle.arena.specs.declared.Style.{Style}
+use Rattle.arena.specs.declared.Rect.{Rect}
+use Rattle.arena.specs.declared.StatePatch.{StatePatch}
+use Rattle.arena.specs.declared.Viewport.{Viewport}
+use Rattle.arena.specs.declared.Pointer.{Pointer}
+use Rattle.arena.specs.declared.UiEvent.{UiEvent}
+use Rattle.arena.specs.declared.UiEvent.the-variants.{PointerMoved, PointerPressed, PointerReleased, TextEntered, Edit}
+use Rattle.arena.specs.declared.Key.{Key}
+use Rattle.arena.specs.declared.Key.the-variants.{Char, Op}
+use Rattle.arena.specs.Fields.{Shown, noText}
+use Rattle.arena.specs.Slots.{nobody}
 
 -- A call of the tree with its arguments: an insertion, which alone gives an id; another call that may change the tree; a read, which cannot.
 pub data Change : Type 0 where
@@ -135,6 +140,16 @@ metresSaid h d = ofNode 0 (λ x. ofText 0 (λ t. metresOf (bytesOf t)) (x .text)
 
 unfoldable pub rectSaid : History → NodeId → Answer Rect
 rectSaid h d = ofNode noRect (λ x. accepted (x .rect)) (find d (h .tree))
+
+unfoldable pub liveSaid : History → NodeId → Answer Bool
+liveSaid h d = accepted (has h d)
+
+-- A dead node has no first child; of its next sibling is asked in vain.
+unfoldable pub firstSaid : History → NodeId → Answer MaybeId
+firstSaid h d = accepted (firstId (kidsOf d (h .tree)))
+
+unfoldable pub nextSaid : History → NodeId → Answer MaybeId
+nextSaid h d = cond (has h d) (accepted (nextId d (h .tree))) (refused Missing Absent)
 
 -- The refusal number of a call, by document 01's table; 0 where it is accepted. Number 1 never comes.
 abbrev pub unless : Bool → ℕ → ℕ → ℕ
