@@ -19,24 +19,25 @@ use Rattle.field.specs.declared.Field.{Field}
 use Rattle.arithmetic.specs.Tests.{same, all, within, Maybe, nothing, just}
 use Rattle.arithmetic.proofs.BoolLaws.{pick-of}
 use Rattle.arithmetic.proofs.TestLaws.{bool-cases}
-use Rattle.tree.specs.Slots.{NIL, isLive}
+use Rattle.tree.specs.Slots.{NIL, isLive, nobody}
 use Rattle.tree.specs.Styles.{noRect}
 use Rattle.tree.specs.States.{inPool}
-use Rattle.tree.specs.Fields.{fieldOf, firstField, vacant, reclaimed}
+use Rattle.tree.specs.Fields.{fieldOf, firstField, vacant, reclaimed, noText}
 use Rattle.tree.specs.Trees.{limitOf, waitingOf}
 use Rattle.tree.specs.Broken.{broken}
+use Rattle.tree.specs.Layout.{sameView}
 use Rattle.tree.specs.Calls as tree
-use Rattle.tree.specs.Calls.{Outcome, nobody, gives, refuses, guarded, onLive, ofField, onField, noText, shown, takeVacant, takeField, sameView}
+use Rattle.tree.specs.Calls.{Outcome, gives, refuses, guarded, onLive, ofField, onField, shown, takeVacant, takeField}
 use Rattle.tree.specs.declared.Ui.{Ui}
 use Rattle.tree.proofs.FieldLaws.{a-test-of-all-is-of-each}
 use Rattle.tree.proofs.FieldParts.{found-field-is-ruled}
 use Rattle.tree.proofs.RuleParts.{a-tree-not-broken-keeps-each-rule}
 use Rattle.desk.specs.Events as desk
 use Rattle.desk.specs.Events.{takeOldest}
-use Rattle.desk.specs.History.{Call, Change, Question}
-use Rattle.desk.specs.History.Call.{insert, change, ask}
-use Rattle.desk.specs.History.Change.{remove, setStyle, setStateTable, setPatchPool, makeField, solve, handle, nextOutput}
-use Rattle.desk.specs.History.Question.{fieldText, fieldCursor, metres, rect, live, firstChild, nextSibling, absorb}
+use Rattle.tree.specs.History.{Call, Change, Question}
+use Rattle.tree.specs.History.Call.{insert, change, ask}
+use Rattle.tree.specs.History.Change.{remove, setStyle, setStateTable, setPatchPool, makeField, solve, handle, nextOutput}
+use Rattle.tree.specs.History.Question.{fieldText, fieldCursor, metres, rect, live, firstChild, nextSibling, absorb}
 use Rattle.desk.specs.Demand3.{step, changeStep, numberAsked}
 use Rattle.desk.specs.CallLaws.{ARefusedCallChangesNothing, ABrokenTreeIsRefused, OnlyABrokenTreeIsRefusedBy1}
 

@@ -16,14 +16,15 @@ use Rattle.field.specs.declared.Field.{Field}
 use Rattle.arithmetic.specs.Tests.{same, all, Maybe, nothing, just}
 use Rattle.arithmetic.proofs.BoolLaws.{pick-of, and-left, and-right}
 use Rattle.arithmetic.proofs.TestLaws.{eq-cases, same-yes}
-use Rattle.tree.specs.Slots.{NIL, isLive}
+use Rattle.tree.specs.Slots.{NIL, isLive, nobody}
 use Rattle.tree.specs.Styles.{noState, stateAt}
 use Rattle.tree.specs.States.{inPool, isId}
 use Rattle.tree.specs.Fields.{owns, fieldOf, firstField, vacant, reclaimed, changeFirst}
 use Rattle.tree.specs.Trees.{limitOf, waitingOf}
 use Rattle.tree.specs.Broken.{broken}
+use Rattle.tree.specs.Layout.{sameView}
 use Rattle.tree.specs.Calls as tree
-use Rattle.tree.specs.Calls.{nobody, takeVacant, takeField, sameView}
+use Rattle.tree.specs.Calls.{takeVacant, takeField}
 use Rattle.tree.specs.Types.{StateSlot}
 use Rattle.tree.specs.declared.Ui.{Ui}
 use Rattle.tree.proofs.Relation.{AllFields}
@@ -36,15 +37,15 @@ use Rattle.tree.proofs.KeptTrees.{Tabled, FieldKept, Kept, Keeps, a-kept-tree-i
 use Rattle.tree.proofs.KeptLinks.{an-insertion-keeps-the-tree, a-removal-keeps-the-tree}
 use Rattle.desk.specs.Events as desk
 use Rattle.desk.specs.Events.{activate, releasedOn, keyedField, editField, editFocused, appliedEvent, hitOf, handled, takeOldest}
-use Rattle.desk.specs.History.{Call, Change}
-use Rattle.desk.specs.History.Call.{insert, change, ask}
-use Rattle.desk.specs.History.Change.{remove, setStyle, setStateTable, setPatchPool, makeField, solve, handle, nextOutput}
+use Rattle.tree.specs.History.{Call, Change}
+use Rattle.tree.specs.History.Call.{insert, change, ask}
+use Rattle.tree.specs.History.Change.{remove, setStyle, setStateTable, setPatchPool, makeField, solve, handle, nextOutput}
 use Rattle.desk.specs.Demand3.{step, changeStep, run, Machine, MachineChange, Machines}
 use Rattle.desk.specs.CallLaws.{MachineTree, NotBrokenStays}
-use Rattle.desk.specs.declared.UiEvent.{UiEvent}
-use Rattle.desk.specs.declared.UiEvent.the-variants.{PointerMoved, PointerPressed, PointerReleased, TextEntered, Edit}
-use Rattle.desk.specs.declared.Key.{Key}
-use Rattle.desk.specs.declared.Key.the-variants.{Char, Op}
+use Rattle.arena.specs.declared.UiEvent.{UiEvent}
+use Rattle.arena.specs.declared.UiEvent.the-variants.{PointerMoved, PointerPressed, PointerReleased, TextEntered, Edit}
+use Rattle.arena.specs.declared.Key.{Key}
+use Rattle.arena.specs.declared.Key.the-variants.{Char, Op}
 use Rattle.desk.proofs.KeySteps.{key-keeps-owner, key-keeps-rules}
 
 -- ---- lengths as tests

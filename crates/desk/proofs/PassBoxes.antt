@@ -10,11 +10,11 @@ use Rattle.field.specs.declared.NodeId.{NodeId}
 use Rattle.arithmetic.proofs.TestLaws.{bool-cases}
 use Rattle.tree.specs.Slots.{isLive}
 use Rattle.tree.specs.Styles.{noRect, layoutAt}
-use Rattle.tree.specs.Layout.{passed}
+use Rattle.tree.specs.Layout.{passed, sameView}
 use Rattle.tree.specs.Trees.{limitOf, withStyles, withPass}
 use Rattle.tree.specs.Broken.{broken, linksWell}
 use Rattle.tree.specs.Calls as tree
-use Rattle.tree.specs.Calls.{guarded, onLive, sameView}
+use Rattle.tree.specs.Calls.{guarded, onLive}
 use Rattle.tree.specs.Types.{Rect, LayoutSlot, Viewport}
 use Rattle.tree.specs.declared.Ui.{Ui}
 use Rattle.tree.proofs.PassBoxes.{equal-styles-slot-by-slot, the-boxes-after-a-pass-are-by-the-styles}

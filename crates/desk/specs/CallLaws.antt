@@ -8,11 +8,11 @@ use Rattle.field.specs.declared.Field.{Field}
 use Rattle.arithmetic.specs.Tests.{same, all}
 use Rattle.tree.specs.Broken.{broken}
 use Rattle.tree.specs.Trees.{withStyles}
+use Rattle.tree.specs.Layout.{sameView}
 use Rattle.tree.specs.Calls as tree
-use Rattle.tree.specs.Calls.{sameView}
 use Rattle.tree.specs.Types.{StateSlot, LayoutSlot, Viewport}
 use Rattle.tree.specs.declared.Ui.{Ui}
-use Rattle.desk.specs.History.{Call}
+use Rattle.tree.specs.History.{Call}
 use Rattle.desk.specs.Demand3.{step, run, Machines}
 
 -- A refused call gives back the tree that it got.
