@@ -174,9 +174,9 @@ refusalOfQuestion h (fieldText d) = textSaid h d .number
 refusalOfQuestion h (fieldCursor d) = caretSaid h d .number
 refusalOfQuestion h (metres d) = metresSaid h d .number
 refusalOfQuestion h (rect d) = rectSaid h d .number
-refusalOfQuestion h (live d) = 0
-refusalOfQuestion h (firstChild d) = 0
-refusalOfQuestion h (nextSibling d) = unless (has h d) (numberOf Missing) 0
+refusalOfQuestion h (live d) = liveSaid h d .number
+refusalOfQuestion h (firstChild d) = firstSaid h d .number
+refusalOfQuestion h (nextSibling d) = nextSaid h d .number
 refusalOfQuestion h (absorb s) = 0
 
 unfoldable pub refusalOf : History → Call → ℕ

@@ -1,9 +1,4 @@
--- What follows from demand 3, each in words that a planner can check:
---   no-id-is-given-twice            the ids of the root and of the accepted inserts are all different;
---   number-1-never-comes            in a run no call says that the tree is broken;
---   a-text-is-its-keys              a live field's text is made of just the keys handled while its node had the focus, since it was made;
---   an-untouched-field-is-empty     a field into which no such key fell reads as no text, and its metres are refused by 9, never read as 0.
--- Assumes nothing.
+-- What follows from demand 3, as specs/Corollaries.antt states it. Assumes nothing.
 use mathlib.Core.Path.{_≡_, refl, sym, ap, subst, _∙_}
 use mathlib.Core.Bool.{Bool, true, false, _&&_, _||_, not, cond}
 use mathlib.Core.List.{List, [], _∷_, _++_}
@@ -12,10 +7,9 @@ use native.Mathlib.Omega.{arith}
 use lib.Dec.{ltb, eqb}
 use lib.ListN.{length, getD}
 use Rattle.text.specs.Steps.{front}
-use Rattle.text.specs.Refusal.{Answer, accepted, refused}
-use Rattle.text.specs.declared.refusal.Refusal.the-variants.{Empty}
+use Rattle.text.specs.Refusal.{Answer, accepted}
 use Rattle.text.specs.Utf8.{encodedAll}
-use Rattle.field.specs.Text.{Text, text, bytesOf}
+use Rattle.field.specs.Text.{Text, text, bytesOf, caretOf}
 use Rattle.field.specs.Metres.{isPoint, isDigit, behind, metresOf}
 use Rattle.field.specs.declared.NodeId.{NodeId}
 use Rattle.arithmetic.specs.Tests.{same, all, Maybe, nothing, just, within}
@@ -32,12 +26,13 @@ use Rattle.tree.proofs.FieldLaws.{one-id-is-the-other, to-have-an-id-is-to-be-n
 use Rattle.tree.specs.Fields.{fieldOf, noText}
 use Rattle.tree.proofs.Relation.{textIn}
 use Rattle.desk.specs.Events as desk
-use Rattle.tree.specs.History.{History, Call, Change, Question, has, unless, start, refusalOf, refusalOfField, refusalOfChange, refusalOfQuestion, afterChange, accept, recorded, grown, keepText, keyText, mapMaybe, refresh, afterEvent, padded, ofText, ofNode, textSaid, caretSaid, metresSaid, rectSaid, fieldCount, rootId}
+use Rattle.tree.specs.History.{History, Call, Change, Question, has, unless, start, refusalOf, refusalOfField, refusalOfChange, refusalOfQuestion, afterChange, accept, recorded, grown, keepText, keyText, mapMaybe, refresh, afterEvent, padded, ofText, ofNode, textSaid, caretSaid, metresSaid, rectSaid, liveSaid, firstSaid, nextSaid, fieldCount, rootId}
 use Rattle.tree.specs.History.Call.{insert, change, ask}
 use Rattle.tree.specs.History.Change.{remove, setStyle, setStateTable, setPatchPool, makeField, solve, handle, nextOutput}
 use Rattle.tree.specs.History.Question.{fieldText, fieldCursor, metres, rect, live, firstChild, nextSibling, absorb}
-use Rattle.desk.specs.Demand3.{step, run, numbers, feed, given, Machines, follow, refusals, Distinct}
+use Rattle.desk.specs.Demand3.{step, run, feed, Machines, follow, refusals}
 use Rattle.desk.specs.Keys.{typedOn, textOfKeys, Log, logKey, logEvent, beginAt, logField, loggedChange, logged, logs, noKeys}
+use Rattle.desk.specs.Corollaries.{NeverOne, newOne, treeAfter, historyAfter, keysAfter, HasField, Corollaries}
 use Rattle.arena.specs.declared.UiEvent.{UiEvent}
 use Rattle.arena.specs.declared.UiEvent.the-variants.{PointerMoved, PointerPressed, PointerReleased, TextEntered, Edit}
 use Rattle.arena.specs.declared.Key.{Key}
@@ -48,17 +43,7 @@ use Rattle.desk.proofs.CallSteps.{every-call}
 use Rattle.desk.proofs.Demand3.{starts, demand-3}
 use Rattle.tree.specs.Slots.{nobody}
 
--- ---- ids
-
-pub no-id-is-given-twice : (limit : ℕ) → limit < 2 ^ 32 → (cs : List Call) → length cs < 2 ^ 63 → Machines cs → Distinct (rootId ∷ given (tree.newTree limit .next) cs)
-unfolding start
-no-id-is-given-twice limit l cs n m = demand-3 limit l cs n m .ids-differ
-
 -- ---- number 1
-
-abbrev NeverOne : List ℕ → Type 0
-NeverOne [] = Unit {0}
-NeverOne (n ∷ ns) = (n ≡ 1 → ⊥) × NeverOne ns
 
 unless-not : (b : Bool) (n m : ℕ) → (n ≡ 1 → ⊥) → (m ≡ 1 → ⊥) → unless b n m ≡ 1 → ⊥
 unless-not true n m p q = q
@@ -72,7 +57,7 @@ node-not : {A : Type 0} (none : A) (read : Info → Answer A) → ((x : Info) �
 node-not none read h nothing = λ e. omega arith
 node-not none read h (just x) = h x
 
-picked-not : (b : Bool) (a c : Answer ℕ) → (a .number ≡ 1 → ⊥) → (c .number ≡ 1 → ⊥) → cond b a c .number ≡ 1 → ⊥
+picked-not : {A : Type 0} (b : Bool) (a c : Answer A) → (a .number ≡ 1 → ⊥) → (c .number ≡ 1 → ⊥) → cond b a c .number ≡ 1 → ⊥
 picked-not true a c p q = p
 picked-not false a c p q = q
 
@@ -103,14 +88,14 @@ change-is-not-1 h (handle e) = λ e. omega arith
 change-is-not-1 h nextOutput = λ e. omega arith
 
 question-is-not-1 : (h : History) (q : Question) → refusalOfQuestion h q ≡ 1 → ⊥
-unfolding textSaid caretSaid metresSaid rectSaid
+unfolding textSaid caretSaid metresSaid rectSaid liveSaid firstSaid nextSaid
 question-is-not-1 h (fieldText d) = node-not _ _ (λ x. text-not _ _ (λ t e. omega arith) (x .text)) (find d (h .tree))
 question-is-not-1 h (fieldCursor d) = node-not _ _ (λ x. text-not _ _ (λ t e. omega arith) (x .text)) (find d (h .tree))
 question-is-not-1 h (metres d) = node-not _ _ (λ x. text-not _ _ (λ t. metres-not (bytesOf t)) (x .text)) (find d (h .tree))
 question-is-not-1 h (rect d) = node-not _ _ (λ x e. omega arith) (find d (h .tree))
 question-is-not-1 h (live d) = λ e. omega arith
 question-is-not-1 h (firstChild d) = λ e. omega arith
-question-is-not-1 h (nextSibling d) = unless-not (has h d) 3 0 (λ e. omega arith) (λ e. omega arith)
+question-is-not-1 h (nextSibling d) = picked-not (has h d) _ _ (λ e. omega arith) (λ e. omega arith)
 question-is-not-1 h (absorb s) = λ e. omega arith
 
 refusal-is-not-1 : (h : History) (c : Call) → refusalOf h c ≡ 1 → ⊥
@@ -123,9 +108,6 @@ refusals-are-not-1 : (h : History) (cs : List Call) (fed : List NodeId) → Neve
 refusals-are-not-1 h [] fed = tt
 refusals-are-not-1 h (c ∷ cs) [] = tt
 refusals-are-not-1 h (c ∷ cs) (d ∷ fed) = (refusal-is-not-1 h c, refusals-are-not-1 (recorded h c d) cs fed)
-
-pub number-1-never-comes : (limit : ℕ) → limit < 2 ^ 32 → (cs : List Call) → length cs < 2 ^ 63 → Machines cs → NeverOne (numbers (tree.newTree limit .next) cs)
-number-1-never-comes limit l cs n m = subst NeverOne (sym (demand-3 limit l cs n m .refused-alike)) (refusals-are-not-1 (start limit) cs (feed (tree.newTree limit .next) cs))
 
 -- ---- keys
 
@@ -294,38 +276,41 @@ found-holds P d f a x e =
     (λ b. let q : nothing ≡ just x = sym (find-nothing d f b) ∙ e in
     let z : _≡_ {A = ℕ} 0 1 = cc in absurd (omega arith))
 
-module _ (limit : ℕ) (l : limit < 2 ^ 32) (cs : List Call) (n : length cs < 2 ^ 63) (m : Machines cs) where
-  abbrev the-tree : Ui
-  the-tree = run (tree.newTree limit .next) cs
-
-  abbrev the-history : History
-  the-history = follow (start limit) cs (feed (tree.newTree limit .next) cs)
-
-  abbrev the-keys : Log
-  the-keys = logs (start limit) cs (feed (tree.newTree limit .next) cs) noKeys
-
-  all-logged : AllF (ByKeys the-keys) (the-history .tree)
+module _ (limit : ℕ) (cs : List Call) (n : length cs < 2 ^ 63) (m : Machines cs) where
+  all-logged : AllF (ByKeys (keysAfter limit cs)) (historyAfter limit cs .tree)
   unfolding start
-  all-logged = runs-logged 0 (tree.newTree limit .next) (start limit) cs (starts limit) (omega arith) m noKeys ((λ t q. no-text nothing t refl q), tt, tt)
+  all-logged = runs-logged 0 (newOne limit cs) (start limit) cs (starts limit) (omega arith) m noKeys ((λ t q. no-text nothing t refl q), tt, tt)
 
-  text-of-keys : (d : NodeId) (x : Info) → find d (the-history .tree) ≡ just x → (o : Maybe Text) → x .text ≡ o → hasField x ≡ true → x .text ≡ just (textOfKeys (the-keys (x .name)))
-  text-of-keys d x f nothing e b = let z : _≡_ {A = ℕ} 0 1 = cc in absurd (omega arith)
-  text-of-keys d x f (just t) e b = e ∙ ap (λ (y : Text). just y) (found-holds (ByKeys the-keys) d (the-history .tree) all-logged x f t e)
+  text-of-keys : (d : NodeId) (x : Info) → HasField limit cs d x → (o : Maybe Text) → x .text ≡ o → x .text ≡ just (textOfKeys (keysAfter limit cs (x .name)))
+  text-of-keys d x f nothing e = let b = f .1 in let z : _≡_ {A = ℕ} 0 1 = cc in absurd (omega arith)
+  text-of-keys d x f (just t) e =
+      e ∙ ap (λ (y : Text). just y) (found-holds (ByKeys (keysAfter limit cs)) d (historyAfter limit cs .tree) all-logged x (f .0) t e)
 
-  pub a-text-is-its-keys : (d : NodeId) (x : Info) → find d (the-history .tree) ≡ just x → hasField x ≡ true
-      → tree.fieldText the-tree d .answer ≡ accepted (padded (textOfKeys (the-keys (x .name))))
-  unfolding textSaid
-  a-text-is-its-keys d x f b =
-      demand-3 limit l cs n m .agree .text-is d ∙ rw (f, text-of-keys d x f (x .text) refl b)
+  -- what is said of a field is said of the text of its keys
+  of-keys : {A : Type 0} (none : A) (read : Text → Answer A) (d : NodeId) (x : Info) → HasField limit cs d x
+      → ofNode none (λ y. ofText none read (y .text)) (find d (historyAfter limit cs .tree)) ≡ read (textOfKeys (keysAfter limit cs (x .name)))
+  of-keys none read d x f = rw (f .0, text-of-keys d x f (x .text) refl)
 
-  pub metres-are-of-its-keys : (d : NodeId) (x : Info) → find d (the-history .tree) ≡ just x → hasField x ≡ true
-      → desk.metres the-tree d .answer ≡ metresOf (bytesOf (textOfKeys (the-keys (x .name))))
-  unfolding metresSaid
-  metres-are-of-its-keys d x f b =
-      demand-3 limit l cs n m .agree .metres-are d ∙ rw (f, text-of-keys d x f (x .text) refl b)
-
-  pub an-untouched-field-is-empty : (d : NodeId) (x : Info) → find d (the-history .tree) ≡ just x → hasField x ≡ true → the-keys (x .name) ≡ []
-      → (tree.fieldText the-tree d .answer ≡ accepted noText) × (desk.metres the-tree d .answer ≡ refused Empty 0)
-  unfolding metresOf bytesOf encodedAll
-  an-untouched-field-is-empty d x f b e =
-      (a-text-is-its-keys d x f b ∙ ap (λ (ks : List Key). accepted (padded (textOfKeys ks))) e, metres-are-of-its-keys d x f b ∙ ap (λ (ks : List Key). metresOf (bytesOf (textOfKeys ks))) e)
+pub corollaries : Corollaries
+unfolding start textSaid caretSaid metresSaid metresOf bytesOf caretOf encodedAll
+corollaries limit l cs n m =
+    let h = demand-3 limit l cs n m in
+    let a = h .agree in
+    let text′ : (d : NodeId) (x : Info) → HasField limit cs d x → tree.fieldText (treeAfter limit cs) d .answer ≡ accepted (padded (textOfKeys (keysAfter limit cs (x .name)))) =
+    λ d x f. a .text-is d ∙ of-keys limit cs n m noText _ d x f in
+    let caret′ : (d : NodeId) (x : Info) → HasField limit cs d x → tree.fieldCursor (treeAfter limit cs) d .answer ≡ accepted (caretOf (textOfKeys (keysAfter limit cs (x .name)))) =
+    λ d x f. a .caret-is d ∙ of-keys limit cs n m 0 _ d x f in
+    let metres′ : (d : NodeId) (x : Info) → HasField limit cs d x → desk.metres (treeAfter limit cs) d .answer ≡ metresOf (bytesOf (textOfKeys (keysAfter limit cs (x .name)))) =
+    λ d x f. a .metres-are d ∙ of-keys limit cs n m 0 _ d x f in
+    record {
+      no-id-is-given-twice = h .ids-differ;
+      number-1-never-comes = subst NeverOne (sym (h .refused-alike)) (refusals-are-not-1 (start limit) cs (feed (newOne limit cs) cs));
+      a-text-is-its-keys = text′;
+      a-caret-is-its-keys = caret′;
+      metres-are-of-its-keys = metres′;
+      an-untouched-field-is-empty = λ d x f e. (
+        text′ d x f ∙ ap (λ (ks : List Key). accepted (padded (textOfKeys ks))) e,
+        caret′ d x f ∙ ap (λ (ks : List Key). accepted (caretOf (textOfKeys ks))) e,
+        metres′ d x f ∙ ap (λ (ks : List Key). metresOf (bytesOf (textOfKeys ks))) e,
+      );
+    }

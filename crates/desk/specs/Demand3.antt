@@ -14,12 +14,12 @@ use Rattle.field.specs.declared.MaybeId.{MaybeId}
 use Rattle.field.specs.declared.MaybeId.the-variants.{Absent, Present}
 use Rattle.arithmetic.specs.Tests.{same}
 use Rattle.tree.specs.States.{sameId}
-use Rattle.tree.specs.Forest.{hasId, kidsOf, ids}
+use Rattle.tree.specs.Forest.{kidsOf, ids}
 use Rattle.tree.specs.Calls as tree
 use Rattle.tree.specs.Calls.{Outcome}
 use Rattle.tree.specs.declared.Ui.{Ui}
 use Rattle.desk.specs.Events as desk
-use Rattle.tree.specs.History.{History, Call, Change, Question, start, refusalOf, recorded, textSaid, caretSaid, metresSaid, rectSaid, idNamed}
+use Rattle.tree.specs.History.{History, Call, Change, Question, start, refusalOf, recorded, textSaid, caretSaid, metresSaid, rectSaid, liveSaid, firstSaid, nextSaid, idNamed}
 use Rattle.tree.specs.History.Call.{insert, change, ask}
 use Rattle.tree.specs.History.Change.{remove, setStyle, setStateTable, setPatchPool, makeField, solve, handle, nextOutput}
 use Rattle.tree.specs.History.Question.{fieldText, fieldCursor, metres, rect, live, firstChild, nextSibling, absorb}
@@ -130,14 +130,19 @@ siblings (suc k) u (Present d) = d ∷ siblings k u (tree.nextSibling u d .answe
 abbrev pub childrenBy : Ui → NodeId → List NodeId
 childrenBy u d = siblings 128 u (tree.firstChild u d .answer .value)
 
--- Of every id at all, what the calls answer is what the history says; and the stored focus is the history's, a dead one or none included.
+-- Of every id at all, what the calls answer is what the history says; and the stored pointer, press and focus are the history's, dead ones or
+-- none included.
 pub record Agree (u : Ui) (h : History) : Type 0 where
-  pub live-is : (d : NodeId) → tree.live u d .answer ≡ accepted (hasId d (h .tree))
+  pub live-is : (d : NodeId) → tree.live u d .answer ≡ liveSaid h d
+  pub first-child-is : (d : NodeId) → tree.firstChild u d .answer ≡ firstSaid h d
+  pub next-sibling-is : (d : NodeId) → tree.nextSibling u d .answer ≡ nextSaid h d
   pub children-are : (d : NodeId) → childrenBy u d ≡ ids (kidsOf d (h .tree))
   pub text-is : (d : NodeId) → tree.fieldText u d .answer ≡ textSaid h d
   pub caret-is : (d : NodeId) → tree.fieldCursor u d .answer ≡ caretSaid h d
   pub metres-are : (d : NodeId) → desk.metres u d .answer ≡ metresSaid h d
   pub rect-is : (d : NodeId) → tree.rect u d .answer ≡ rectSaid h d
+  pub pointer-is : u .interaction .pointer ≡ h .input .pointer
+  pub press-is : u .interaction .pressed ≡ idNamed (h .named) (h .input .pressed)
   pub focus-is : u .interaction .focus ≡ idNamed (h .named) (h .input .focus)
 
 -- No two ids of a list are the same.

@@ -18,8 +18,9 @@ use Rattle.field.specs.declared.MaybeId.the-variants.{Absent, Present}
 use Rattle.field.specs.declared.Field.{Field}
 use Rattle.field.proofs.Laws.{held-is-the-texts, length-is-the-texts, caret-is-the-texts}
 use Rattle.arithmetic.specs.Tests.{Maybe, nothing, just}
-use Rattle.arena.specs.Forest.{Forest, nil, node, hasBoth, hasId, kidsOf, find, ids, size}
+use Rattle.arena.specs.Forest.{Forest, nil, node, hasBoth, hasId, kidsOf, find, ids, firstId, nextId, size}
 use Rattle.arena.specs.Nodes.{Info}
+use Rattle.arena.specs.History.{ofText, ofNode, padded}
 use Rattle.arena.specs.Slots.{NIL, Slots, at}
 use Rattle.arena.specs.Styles.{noRect, layoutAt}
 use Rattle.arena.specs.Fields.{firstField, owns, fieldOf, Shown, noText}
@@ -32,21 +33,9 @@ use Rattle.arena.proofs.Forests.ForestLaws.{cnt, kids, cnt-kids-le, wt-rest, si
 use Rattle.arena.proofs.Forests.Segments.{SegR}
 use Rattle.arena.proofs.Forests.Orders.{rel-size}
 use Rattle.arena.proofs.Forests.Ids.{live-just-where-a-node-has-it, live-id, kids-of-a-live-id, slots-id-is-live, find-nothing, find-known}
-use Rattle.arena.proofs.Forests.ChildLinks.{firstId, first-link, no-node-is-none, children-segment, first-child-of-a-live-id}
+use Rattle.arena.proofs.Forests.ChildLinks.{first-link, no-node-is-none, children-segment, first-child-of-a-live-id, next-sibling-of-a-live-id}
 use Rattle.arena.proofs.Layouts.PassLaws.{Boxed}
 use Rattle.tree.proofs.Relation.{Ruled, AllFields, textIn, Links, Texts}
-
--- what is said of an id: of a live node what is known of it, and of its text
-abbrev pub ofText : {A : Type 0} → A → (Text → Answer A) → Maybe Text → Answer A
-ofText none read nothing = refused Fieldless none
-ofText none read (just t) = read t
-
-abbrev pub ofNode : {A : Type 0} → A → (Info → Answer A) → Maybe Info → Answer A
-ofNode none read nothing = refused Missing none
-ofNode none read (just x) = read x
-
-abbrev pub padded : Text → Shown
-padded t = record { bytes = bytesOf t ++ replicate (64 - length (bytesOf t)) 0; len = length (bytesOf t) }
 
 -- the children of a node in order, by the calls for the first child and the next sibling
 abbrev pub siblings : ℕ → Ui → MaybeId → List NodeId
@@ -150,6 +139,12 @@ module _ {k : ℕ} {u : Ui} {t : Forest Info} (L : Links k u t) (b : broken u �
       (bool-cases (hasId d t)
       (λ e. rw e (ap (λ (m : MaybeId). accepted m) (first-child-of-a-live-id (L .rel) d e)))
       (λ e. rw (e, no-kids-of-no-node d t e)))
+
+  pub next-sibling-answers-the-node-after : (d : NodeId) → nextSibling u d .answer ≡ cond (hasId d t) (accepted (nextId d t)) (refused Missing Absent)
+  unfolding nextSibling
+  next-sibling-answers-the-node-after d =
+      a-call-on-a-node-answers Absent _ d
+      ∙ bool-cases (hasId d t) (λ e. rw e (ap (λ (m : MaybeId). accepted m) (next-sibling-of-a-live-id (L .rel) d e))) (λ e. rw e)
 
   -- of a node in a row of siblings, the next is the one after it
   pub next-sibling-answers-the-next : (p pv i g : ℕ) (x : Info) (cs sib : Forest Info) → SegR (u .slots) p pv (node i g x cs sib) NIL → 0 < cnt i t → cnt NIL sib ≡ 0
