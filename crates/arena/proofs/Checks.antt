@@ -4,3 +4,4 @@ pub mod WalkLaws
 pub mod RuleLaws
 pub mod Stated
 pub mod CheckLaws
+pub mod LinkedForests

@@ -1,5 +1,6 @@
 pub mod Contents
 pub mod PassLaws
+pub mod PassLengths
 pub mod PassSteps
 pub mod Passes
 pub mod Placing

@@ -11,5 +11,8 @@ pub mod ComputedRuns
 pub mod AnswerLaws
 pub mod ReadSteps
 pub mod CallSteps
+pub mod CallLaws
+pub mod NotBrokenStays
+pub mod PassBoxes
 pub mod Demand3
 pub mod Corollaries

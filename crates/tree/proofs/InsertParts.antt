@@ -22,7 +22,7 @@ use Rattle.tree.specs.Calls.{insertAt}
 use Rattle.tree.specs.declared.Ui.{Ui}
 use Rattle.arena.specs.declared.LayoutSlot.{LayoutSlot}
 use Rattle.arena.specs.declared.StateSlot.{StateSlot}
-use Rattle.arithmetic.proofs.TestLaws.{δ-refl, δ-same, eq-cases}
+use Rattle.arithmetic.proofs.TestLaws.{δ-refl, δ-same}
 use Rattle.arena.proofs.Forests.ForestLaws.{cnt, kids, setKids}
 use Rattle.arena.proofs.Forests.Relations.{Rel, once, below}
 use Rattle.arena.proofs.Forests.Payloads.{AllF, all-map, all-app, all-kids, all-set}
@@ -31,7 +31,8 @@ use Rattle.arena.proofs.Forests.Generations.{insert-epochs}
 use Rattle.arena.proofs.Forests.Ids.{live-id, kids-of-a-live-id, set-kids-of-a-live-id, free-cases, full-when-none-is-free}
 use Rattle.arena.proofs.Forests.Rounds.{Worn}
 use Rattle.arena.proofs.Styles.WearLaws.{a-stored-state-is-there, other-states-stay, a-stored-layout-is-there, other-layouts-stay, a-fresh-table-has-no-patch}
-use Rattle.tree.proofs.WellLaws.{a-bare-slot-is-well}
+use Rattle.tree.proofs.StateLaws.{a-stored-state-keeps-of-each}
+use Rattle.tree.proofs.WellLaws.{WellIn, a-bare-slot-is-well}
 use Rattle.tree.proofs.Relation.{Below, BelowMaybe, Links, Naming, Styled, Texts, textIn}
 use Rattle.tree.proofs.GivenIds.{NoEpochFalls, given-ids-stay-given, given-owners-stay-given, ruled-fields-stay-ruled, a-given-id-is-not-a-free-slots, a-free-slots-id-has-no-field}
 
@@ -130,9 +131,7 @@ module _ {k : ℕ} {u : Ui} {t : Forest Info} (L : Links k u t) (d : NodeId) (h 
         stated-long = D .stated-long;
         stated-few = D .stated-few;
         stated-once = D .stated-once;
-        well = λ j jn. eq-cases j i
-            (λ q _ _. rw (q, es) (a-bare-slot-is-well (u .«patch_count») freshStyle))
-            (λ q _ _. rw (other-states-stay s i j freshState q) (D .well j jn));
+        well = a-stored-state-keeps-of-each (WellIn (u .«patch_count»)) (limitOf u) s i freshState (omega arith) (a-bare-slot-is-well (u .«patch_count») freshStyle) (D .well);
       }
 
   pub insert-keeps-texts : Texts (u .slots) (u .fields) t → Texts (insertAt u (d .index) .slots) (u .fields) (withChild u d m t)

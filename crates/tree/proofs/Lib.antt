@@ -1,8 +1,10 @@
 -- modules that belong to no one function
+pub mod RuleParts
 pub mod Prechecks
 pub mod TakenLaws
 pub mod RefreshLaws
 pub mod StylingLaws
+pub mod StateLaws
 pub mod WellLaws
 pub mod SetterLaws
 pub mod Relation
@@ -19,6 +21,9 @@ pub mod FieldParts
 pub mod StartParts
 pub mod ReadParts
 pub mod Wearings
+pub mod KeptTrees
+pub mod KeptLinks
+pub mod PassBoxes
 -- what arena proves, under the tree's name
 pub use Rattle.arena.proofs.Forests.ForestLaws
 pub use Rattle.arena.proofs.Forests.Payloads
@@ -28,3 +33,4 @@ pub use Rattle.arena.proofs.Forests.Starts
 pub use Rattle.arena.proofs.Layouts.PassLaws
 pub use Rattle.arena.proofs.Hits.HitLaws
 pub use Rattle.arena.proofs.Owners.Places
+pub use Rattle.arena.proofs.Styles.GeometryLaws

@@ -4,17 +4,17 @@ use mathlib.Core.Bool.{true, false}
 use mathlib.Core.List.{List, [], _∷_}
 use Prim.Native.Nat.{ℕ}
 use native.Mathlib.Omega.{arith}
-use borrow.Author.Tests.{le-leb}
 use Rattle.field.specs.Fields.{fieldOk}
 use Rattle.field.specs.declared.Field.{Field}
 use Rattle.arithmetic.specs.Tests.{all}
 use Rattle.arena.specs.Forest.{Forest}
 use Rattle.arena.specs.Nodes.{Info}
 use Rattle.arena.specs.Slots.{Slots}
-use Rattle.tree.specs.Broken.{broken, linksWell}
+use Rattle.tree.specs.Broken.{broken}
 use Rattle.tree.specs.Trees.{limitOf}
 use Rattle.tree.specs.declared.Ui.{Ui}
 use Rattle.arena.proofs.Checks.RuleLaws.{both-true, links-are-well}
+use Rattle.tree.proofs.RuleParts.{a-tree-that-keeps-each-rule-is-not-broken}
 use Rattle.tree.proofs.WellLaws.{states-well-together}
 use Rattle.arena.proofs.Forests.Ids.{limit-is-positive}
 use Rattle.tree.proofs.Relation.{Ruled, AllFields, Links, Styled, Pool, Texts, Queue}
@@ -24,19 +24,18 @@ ruled-fields-keep-the-rules s t [] q = refl
 ruled-fields-keep-the-rules s t (f ∷ fs) q = both-true (fieldOk f) (all fieldOk fs) (q .0 .0) (ruled-fields-keep-the-rules s t fs (q .1))
 
 pub not-broken : {k : ℕ} {u : Ui} {t : Forest Info} → Links k u t → Styled u t → Pool u → Texts (u .slots) (u .fields) t → Queue u → broken u ≡ false
-unfolding broken linksWell
 not-broken {k} {u} {t} L D P X Q =
     let sm = L .rel .small in
     let ls = D .sized .1 in
-    rw (
-      le-leb 1 (limitOf u) (limit-is-positive (L .rel)),
-      le-leb (limitOf u) 128 sm,
-      le-leb (u .«patch_count») 64 (P .few),
-      links-are-well (limitOf u) (u .slots) (u .free) (u .live) t (L .chain) (L .rel) (L .count),
-      states-well-together (u .«patch_count») (limitOf u) (u .states) (omega arith) (D .well),
-      le-leb (u .«stated_count») 3 (D .stated-few),
-      D .stated-once,
-      le-leb (u .«output_count») (limitOf u) (Q .few),
-      X .owners,
-      ruled-fields-keep-the-rules (u .slots) t (u .fields) (X .ruled),
-    )
+    a-tree-that-keeps-each-rule-is-not-broken u (record {
+      some-nodes = limit-is-positive (L .rel);
+      few-nodes = sm;
+      few-patches = P .few;
+      links = links-are-well (limitOf u) (u .slots) (u .free) (u .live) t (L .chain) (L .rel) (L .count);
+      states = states-well-together (u .«patch_count») (limitOf u) (u .states) (omega arith) (D .well);
+      few-stated = D .stated-few;
+      stated-once = D .stated-once;
+      few-waiting = Q .few;
+      owners = X .owners;
+      fields = ruled-fields-keep-the-rules (u .slots) t (u .fields) (X .ruled);
+    })

@@ -4,24 +4,24 @@ use mathlib.Core.Bool.{Bool, true, false, _&&_, not}
 use mathlib.Core.List.{List, [], _∷_, _++_}
 use Prim.Native.Nat.{ℕ, zero, suc, _+_, _≤_, _<_}
 use native.Mathlib.Omega.{arith}
-use borrow.Author.Tests.{ltb-true, leb-true}
-use lib.Dec.{ltb, leb}
-use lib.ListN.{length, take}
-use Rattle.field.specs.Fields.{fieldOk}
+use borrow.Author.Tests.{ltb-true}
+use lib.Dec.{ltb}
+use lib.ListN.{length}
 use Rattle.text.specs.declared.refusal.Refusal.{Refusal}
 use Rattle.text.specs.declared.refusal.Refusal.the-variants.{Broken, Missing}
 use Rattle.text.specs.declared.refusal.Verdict.the-variants.{Accepted, Refused}
 use Rattle.field.specs.declared.NodeId.{NodeId}
 use Rattle.arithmetic.specs.Tests.{same, all, occ, headOr, fromTo}
 use Rattle.arena.specs.Slots.{Slots, NIL, at, isLive, order, chain, kidsAt}
-use Rattle.tree.specs.Trees.{limitOf, statedOf}
-use Rattle.tree.specs.Broken.{broken, linksWell}
-use Rattle.arena.specs.Rules.{linked, eachOnce, aliveness, nodeWell, freeWell, stateWell, distinct, ownersWell}
+use Rattle.tree.specs.Trees.{limitOf}
+use Rattle.tree.specs.Broken.{broken}
+use Rattle.arena.specs.Rules.{linked, eachOnce, aliveness, nodeWell, freeWell}
 use Rattle.tree.specs.Calls.{Outcome, refuses, guarded, onLive}
 use Rattle.tree.specs.Answers.{precheck}
 use Rattle.tree.specs.declared.Ui.{Ui}
 use Rattle.arithmetic.proofs.TestLaws.{bool-cases, eq-cases}
 use Rattle.arena.proofs.Styles.GeometryLaws.{no-more}
+use Rattle.tree.proofs.RuleParts.{Rules, a-tree-not-broken-keeps-each-rule}
 
 word-is : (v w : Refusal) → Refused v ≡ Refused w → v ≡ w
 word-is v w e = cc
@@ -56,22 +56,6 @@ first : (a b : Bool) → (a && b) ≡ true → a ≡ true
 first true b e = refl
 first false b e = e
 
-third : (a b c d : Bool) → not (a && (b && (c && d))) ≡ false → (a ≡ true) × (c ≡ true)
-third true true true d e = (refl, refl)
-third true true false d e = no-more (sym e)
-third true false c d e = no-more (sym e)
-third false b c d e = no-more (sym e)
-
-seventh : (a b c d e f g h : Bool) → not (a && (b && (c && (d && (e && (f && (g && h))))))) ≡ false → g ≡ true
-seventh true true true true true true true h z = refl
-seventh true true true true true true false h z = no-more (sym z)
-seventh true true true true true false g h z = no-more (sym z)
-seventh true true true true false f g h z = no-more (sym z)
-seventh true true true false e f g h z = no-more (sym z)
-seventh true true false d e f g h z = no-more (sym z)
-seventh true false c d e f g h z = no-more (sym z)
-seventh false b c d e f g h z = no-more (sym z)
-
 second-fourth-sixth : (a b c d e f : Bool) → (a && (b && (c && (d && (e && f))))) ≡ true → (b ≡ true) × (d ≡ true) × (f ≡ true)
 second-fourth-sixth true true true true true f e = (refl, refl, e)
 second-fourth-sixth true true true true false f e = no-more e
@@ -84,10 +68,6 @@ last-of-three : (a b c : Bool) → (a && (b && c)) ≡ true → c ≡ true
 last-of-three true true c e = e
 last-of-three true false c e = no-more e
 last-of-three false b c e = no-more e
-
-last-of-two : (a b : Bool) → (a && b) ≡ true → b ≡ true
-last-of-two true b e = e
-last-of-two false b e = no-more e
 
 order-is-short : (k : ℕ) (s : Slots) (q : List ℕ) → length (order k s q) ≤ k
 unfolding order
@@ -106,30 +86,21 @@ module _ (u : Ui) (b : broken u ≡ false) where
   abbrev free : List ℕ
   free = chain 128 (u .slots) (u .free)
 
-  kept : ((leb 1 (limitOf u) && leb (limitOf u) 128) ≡ true) × (linksWell u ≡ true)
-  unfolding broken
-  kept =
-      third (leb 1 (limitOf u) && leb (limitOf u) 128) (leb (u .«patch_count») 64) (linksWell u)
-      (all (stateWell (u .«patch_count»)) (take (limitOf u) (u .states))
-      && (leb (u .«stated_count») 3 && (distinct (limitOf u) (statedOf u) && (leb (u .«output_count») (limitOf u) && (ownersWell (u .fields) && all fieldOk (u .fields)))))) b
+  rules : Rules u
+  rules = a-tree-not-broken-keeps-each-rule u b
 
   parts : (eachOnce (limitOf u) (u .slots) reached free ≡ true) × (same (u .free) (headOr NIL free) ≡ true) × (same (u .live) (length reached) ≡ true)
-  unfolding linksWell linked
+  unfolding linked
   parts =
       second-fourth-sixth
       (at (u .slots) 0 .live && (same (at (u .slots) 0 .parent) NIL && (same (at (u .slots) 0 .«prev_sibling») NIL && same (at (u .slots) 0 .«next_sibling») NIL)))
-      (eachOnce (limitOf u) (u .slots) reached free) (all (nodeWell (u .slots)) reached) (same (u .free) (headOr NIL free)) (freeWell (u .slots) free) (same (u .live) (length reached)) (kept .1)
+      (eachOnce (limitOf u) (u .slots) reached free) (all (nodeWell (u .slots)) reached) (same (u .free) (headOr NIL free)) (freeWell (u .slots) free) (same (u .live) (length reached)) (rules .links)
 
   pub few-slots : limitOf u ≤ 128
-  few-slots = leb-true (limitOf u) 128 (last-of-two (leb 1 (limitOf u)) (leb (limitOf u) 128) (kept .0))
+  few-slots = rules .few-nodes
 
   pub few-waiting : u .«output_count» ≤ limitOf u
-  unfolding broken
-  few-waiting =
-      leb-true (u .«output_count») (limitOf u)
-      (seventh (leb 1 (limitOf u) && leb (limitOf u) 128) (leb (u .«patch_count») 64) (linksWell u)
-      (all (stateWell (u .«patch_count»)) (take (limitOf u) (u .states))) (leb (u .«stated_count») 3) (distinct (limitOf u) (statedOf u))
-      (leb (u .«output_count») (limitOf u)) (ownersWell (u .fields) && all fieldOk (u .fields)) b)
+  few-waiting = rules .few-waiting
 
   pub few-live : u .live ≤ 128
   few-live =

@@ -206,6 +206,30 @@ module _ (u : Ui) (hover : MaybeId) where
   unfolding refreshed withStated withStyles
   the-stated-are-those-that-bear = take-append-seam (bearing (bitsAt u hover) [] (three u hover)) (drop (length (bearing (bitsAt u hover) [] (three u hover))) (u .stated))
 
+-- ---- the slots stated after it: at most three, each once, below the limit
+
+pub record StatedAfter (u u′ : Ui) : Type 0 where
+  pub below : (j : ℕ) → 0 < occ j (statedOf u′) → j < limitOf u
+  pub each-once : distinct (limitOf u) (statedOf u′) ≡ true
+  pub few : u′ .«stated_count» ≤ 3
+  pub long : length (u′ .stated) ≡ 3
+
+pub what-a-refresh-states : (u : Ui) (hover : MaybeId) → length (u .stated) ≡ 3 → StatedAfter u (refreshed u hover)
+unfolding refreshed withStated withStyles
+what-a-refresh-states u hover len =
+    let borne : List ℕ = bearing (bitsAt u hover) [] (three u hover) in
+    let few = no-more-are-borne-than-listed u hover [] (three u hover) in
+    let tm = three-at-most u hover in
+    let se : statedOf (refreshed u hover) ≡ borne = the-stated-are-those-that-bear u hover in
+    let bb : (j : ℕ) → 0 < occ j borne → j < limitOf u = λ j z. let q = what-is-borne-was-listed u hover [] (three u hover) j z in the-three-are-below-the-limit u hover j (omega arith) in
+    record {
+      below = λ j z. bb j (subst (λ (l : List ℕ). 0 < occ j l) se z);
+      each-once = subst (λ (l : List ℕ). distinct (limitOf u) l ≡ true) (sym se)
+          (once-each-and-below-is-distinct (limitOf u) borne (what-is-borne-is-borne-once u hover [] (three u hover) (λ j. omega arith)) bb);
+      few = omega arith;
+      long = let a = length-append borne (drop (length borne) (u .stated)) in let b = length-drop (length borne) (u .stated) in omega arith;
+    }
+
 -- ---- the whole
 
 pub record Refresh (u u′ : Ui) (t t′ : Forest Info) (moved : Bool) : Type 0 where
@@ -236,10 +260,8 @@ a-refresh-is-every-node-wearing-its-bits {t = t} u hover bits r o len w tw st sb
     live-just-where-a-node-has-it r (idAt (u .slots) i) ∙ slots-id-is-live r i c in
     let nowIn : AllF (λ i g x. 0 < bits i g x → 0 < occ i (three u hover)) t = all-map (λ i g x. bitsAt u hover i ≡ bits i g x) (λ i g x. 0 < bits i g x → 0 < occ i (three u hover)) t
     (λ i g x c e b. a-live-slot-with-bits-is-one-of-the-three u hover i (alive i c) (omega arith)) be in
-    let few = no-more-are-borne-than-listed u hover [] (three u hover) in
-    let tm = three-at-most u hover in
     let se : statedOf (refreshed u hover) ≡ borne = the-stated-are-those-that-bear u hover in
-    let bb : (j : ℕ) → 0 < occ j borne → j < limitOf u = λ j z. let q = what-is-borne-was-listed u hover [] (three u hover) j z in the-three-are-below-the-limit u hover j (omega arith) in
+    let S = what-a-refresh-states u hover len in
     let W : ℕ → ℕ → Info → Type 0 = λ i g x. 0 < x .bits → 0 < occ i (statedOf (refreshed u hover)) in
     record {
       looks = all-slots-wearing-is-every-node-wearing (poolOf u) (bitsAt u hover) (appearanceOf u) is t bits (λ j z. let l = lim j z in omega arith) o w tw be
@@ -249,9 +271,8 @@ a-refresh-is-every-node-wearing-its-bits {t = t} u hover bits r o len w tw st sb
       with-bits = all-mapF W (λ i g x. wears (poolOf u) (bits i g x) x) t (all-map (λ i g x. (bitsAt u hover i ≡ bits i g x)) (λ i g x. W i g (wears (poolOf u) (bits i g x) x)) t
           (λ i g x c e b. subst (λ (l : List ℕ). 0 < occ i l) (sym se)
           (slots-with-bits-are-borne u hover [] (three u hover) i (a-live-slot-with-bits-is-one-of-the-three u hover i (alive i c) (omega arith)) (omega arith))) be);
-      stated-below = λ j z. bb j (subst (λ (l : List ℕ). 0 < occ j l) se z);
-      stated-once = subst (λ (l : List ℕ). distinct (limitOf u) l ≡ true) (sym se)
-          (once-each-and-below-is-distinct (limitOf u) borne (what-is-borne-is-borne-once u hover [] (three u hover) (λ j. omega arith)) bb);
-      stated-few = omega arith;
-      stated-long = let a = length-append borne (drop (length borne) (u .stated)) in let b = length-drop (length borne) (u .stated) in omega arith;
+      stated-below = S .below;
+      stated-once = S .each-once;
+      stated-few = S .few;
+      stated-long = S .long;
     }

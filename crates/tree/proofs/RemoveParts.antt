@@ -1,6 +1,6 @@
 -- A removal keeps every part: the node and all below it leave the forest, the slots freed are those of the part that leaves, each is one
 -- generation older and its state is as new. So every epoch is what it was, and what holds of the nodes that stay held before. Assumes nothing.
-use mathlib.Core.Path.{_≡_, refl, sym, _∙_}
+use mathlib.Core.Path.{_≡_, refl, sym, subst, _∙_}
 use mathlib.Core.Logic.{_≢_}
 use mathlib.Core.Bool.{true}
 use mathlib.Core.List.{List, [], _∷_}
@@ -30,7 +30,8 @@ use Rattle.arena.proofs.Forests.Generations.{remove-keeps-epochs, remove-genera
 use Rattle.arena.proofs.Forests.Ids.{live-id, cut-of-a-live-id}
 use Rattle.arena.proofs.Forests.Rounds.{Worn}
 use Rattle.arena.proofs.Styles.WearLaws.{a-stored-state-is-there, other-states-stay}
-use Rattle.tree.proofs.WellLaws.{a-bare-slot-is-well}
+use Rattle.tree.proofs.StateLaws.{EachState}
+use Rattle.tree.proofs.WellLaws.{WellIn, a-bare-slot-is-well}
 use Rattle.tree.proofs.Relation.{Below, BelowMaybe, Links, Naming, Styled, Texts}
 use Rattle.tree.proofs.GivenIds.{NoEpochFalls, given-ids-stay-given, given-owners-stay-given, ruled-fields-stay-ruled}
 
@@ -61,6 +62,13 @@ states-reset-are-fresh l (i ∷ is) j b z =
     eq-cases i j
     (λ q _ _. a-fresh-state-stays-fresh (set l i freshState) is j (rw length-set b) (rw (← q) (a-stored-state-is-there l i freshState (rw (← q) at b))))
     (λ q _ z′. states-reset-are-fresh (set l i freshState) is j (rw length-set b) (omega arith))
+
+-- so what holds of each state and of a new one holds of each after it
+pub reset-states-keep-of-each : (P : StateSlot → Type 0) (n : ℕ) (l : List StateSlot) (o : List ℕ) → n ≤ length l → P freshState → EachState P n l → EachState P n (resetStates l o)
+reset-states-keep-of-each P n l o m f w j h =
+    zero-cases (occ j o)
+    (λ z. subst P (sym (states-not-reset-stay l o j z)) (w j h))
+    (λ z. subst P (sym (states-reset-are-fresh l o j (omega arith) z)) f)
 
 -- ---- the parts
 
@@ -149,10 +157,7 @@ module _ {k : ℕ} {u : Ui} {t : Forest Info} (L : Links k u t) (small : k < 2 ^
         stated-long = D .stated-long;
         stated-few = D .stated-few;
         stated-once = D .stated-once;
-        well = λ j b.
-            zero-cases (occ j o)
-            (λ z. rw (states-not-reset-stay s o j z) (D .well j b))
-            (λ z. rw (states-reset-are-fresh s o j (omega arith) z) (a-bare-slot-is-well (u .«patch_count») freshStyle));
+        well = reset-states-keep-of-each (WellIn (u .«patch_count»)) (limitOf u) s o (omega arith) (a-bare-slot-is-well (u .«patch_count») freshStyle) (D .well);
       }
 
   pub remove-keeps-texts : Texts (u .slots) (u .fields) t → Texts (removeAt u (d .index) .slots) (u .fields) (cutOf d t)

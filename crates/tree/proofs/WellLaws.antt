@@ -21,13 +21,14 @@ use Rattle.tree.specs.declared.Ui.{Ui}
 use Rattle.arena.specs.declared.Style.{Style}
 use Rattle.arena.specs.declared.StateSlot.{StateSlot}
 use Rattle.arena.specs.declared.StatePatch.{StatePatch}
-use Rattle.arithmetic.proofs.TestLaws.{same-refl, eq-cases, zero-cases}
+use Rattle.arithmetic.proofs.TestLaws.{same-refl}
 use Rattle.arena.proofs.Forests.Starts.{occ-within}
 use Rattle.arena.proofs.Checks.RuleLaws.{both-true, occurs-below}
-use Rattle.arena.proofs.Forests.Rounds.{Look, lookAt, Sized, Stepped, Stepping, Inside, a-slot-not-visited-stays, a-slot-visited-is-changed}
+use Rattle.arena.proofs.Forests.Rounds.{Look, Sized, Inside, a-slot-visited-is-changed}
 use Rattle.arena.proofs.Styles.WearLaws.{wearStep, bareStep, wear-all-is-a-round, bare-all-is-a-round}
 use Rattle.tree.proofs.RefreshLaws.{three, the-slots-of-a-refresh-are-below-the-limit}
 use Rattle.tree.proofs.StylingLaws.{style-step, table-step}
+use Rattle.tree.proofs.StateLaws.{EachState, a-changed-slot-keeps-of-each, a-round-keeps-of-each}
 
 -- ---- a test of all of a list's front
 
@@ -43,9 +44,12 @@ a-front-passes-if-each-does p d (suc n) [] h q = absurd (omega arith)
 a-front-passes-if-each-does p d (suc n) (x ∷ xs) h q =
     both-true (p x) (all p (take n xs)) (q 0 (omega arith)) (a-front-passes-if-each-does p d n xs (omega arith) (λ j b. q (suc j) (omega arith)))
 
--- every state slot below n keeps to the rules
+-- a state slot keeps to the rules; so does each below n
+abbrev pub WellIn : ℕ → StateSlot → Type 0
+WellIn count s = stateWell count s ≡ true
+
 abbrev pub StatesWell : ℕ → ℕ → List StateSlot → Type 0
-StatesWell count n l = (j : ℕ) → j < n → stateWell count (stateAt l j) ≡ true
+StatesWell count n l = EachState (WellIn count) n l
 
 pub states-well-by-slot : (count n : ℕ) (l : List StateSlot) → n ≤ length l → all (stateWell count) (take n l) ≡ true → StatesWell count n l
 unfolding stateAt
@@ -117,12 +121,10 @@ bits-of-a-well-slot count s e =
 -- ---- all slots
 
 pub slots-that-wear-are-well : (count n : ℕ) (u : Ui) (hover : MaybeId) (k : Appearance) (is : List ℕ) → Inside is → Sized k → StatesWell count n (k .states) → StatesWell count n (wearAll (poolOf u) (bitsAt u hover) k is .states)
-slots-that-wear-are-well count n u hover k is b o w j h =
-    let S : Stepping = wearStep (poolOf u) (bitsAt u hover) in
-    subst (λ (k′ : Appearance). stateWell count (stateAt (k′ .states) j) ≡ true) (sym (wear-all-is-a-round (poolOf u) (bitsAt u hover) k is))
-    (zero-cases (occ j is)
-    (λ z. ap (λ (e : Look). stateWell count (e .state)) (a-slot-not-visited-stays S k is b o j z) ∙ w j h)
-    (λ z. ap (λ (e : Look). stateWell count (e .state)) (a-slot-visited-is-changed S k is b o j z) ∙ a-slot-that-wears-is-well count (stateAt (k .states) j) (bitsAt u hover j) (bits-are-7-at-most u hover j) (w j h)))
+slots-that-wear-are-well count n u hover k is b o w =
+    subst (λ (k′ : Appearance). StatesWell count n (k′ .states)) (sym (wear-all-is-a-round (poolOf u) (bitsAt u hover) k is))
+    (a-round-keeps-of-each (WellIn count) n (wearStep (poolOf u) (bitsAt u hover)) k is b o
+    (λ j e v. a-slot-that-wears-is-well count (e .state) (bitsAt u hover j) (bits-are-7-at-most u hover j) v) w)
 
 pub a-refreshed-tree-is-well : (count n : ℕ) (u : Ui) (hover : MaybeId) → limitOf u ≤ 128 → Sized (appearanceOf u) → ((j : ℕ) → 0 < occ j (statedOf u) → j < limitOf u)
     → StatesWell count n (u .states) → StatesWell count n (refreshed u hover .states)
@@ -144,19 +146,11 @@ pub a-tree-with-a-new-pool-is-well : (u : Ui) (patches : List StatePatch) (count
 unfolding pooled withPool withStyles
 a-tree-with-a-new-pool-is-well u patches count m o = bare-slots-are-well count (limitOf u) (appearanceOf u) m o
 
-one-slot-well : (count n : ℕ) (change : Look → Look) (moves : Look → Bool) (k k′ : Appearance) (i : ℕ) → Stepped change moves k i k′ → ((e : Look) → stateWell count (e .state) ≡ true → stateWell count (change e .state) ≡ true)
-    → StatesWell count n (k .states) → StatesWell count n (k′ .states)
-one-slot-well count n change moves k k′ i S c w j h =
-    eq-cases j i
-    (λ e _ _. subst (λ (m : ℕ). stateWell count (stateAt (k .states) m) ≡ true → stateWell count (stateAt (k′ .states) m) ≡ true) (sym e)
-    (λ v. ap (λ (e : Look). stateWell count (e .state)) (S .here) ∙ c (lookAt k i) v) (w j h))
-    (λ e _ _. ap (λ (e : Look). stateWell count (e .state)) (S .elsewhere j e) ∙ w j h)
-
 pub a-styled-tree-is-well : (count n : ℕ) (u : Ui) (i : ℕ) (y : Style) → Sized (appearanceOf u) → i < 128 → StatesWell count n (u .states) → StatesWell count n (styledAt u i y .states)
 a-styled-tree-is-well count n u i y o h w =
-    one-slot-well count n _ _ (appearanceOf u) (appearanceOf (styledAt u i y)) i (style-step u i y o h) (λ e v. a-based-slot-is-well count (e .state) y v) w
+    a-changed-slot-keeps-of-each (WellIn count) n i (style-step u i y o h) (λ e v. a-based-slot-is-well count (e .state) y v) w
 
 pub a-tabled-tree-is-well : (count n : ℕ) (u : Ui) (i : ℕ) (table : List ℕ) → Sized (appearanceOf u) → i < 128 → all (inPool count) table ≡ true → StatesWell count n (u .states) → StatesWell count n (tabledAt u i table .states)
 a-tabled-tree-is-well count n u i table o h t w =
-    one-slot-well count n _ _ (appearanceOf u) (appearanceOf (tabledAt u i table)) i (table-step u i table o h)
+    a-changed-slot-keeps-of-each (WellIn count) n i (table-step u i table o h)
     (λ e v. a-slot-that-wears-is-well count (tabled (e .state) table) (e .state .bits) (bits-of-a-well-slot count (e .state) v) (a-tabled-slot-is-well count (e .state) table t v)) w

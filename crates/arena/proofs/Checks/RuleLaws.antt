@@ -47,23 +47,22 @@ chain-of-free-slots zero s (i ∷ is) r b h = absurd (omega arith)
 chain-of-free-slots (suc k) s [] r b h = refl
 chain-of-free-slots (suc k) s (i ∷ is) r b h =
     let d = δ-refl i in
-    let e : at s i .«next_sibling» ≡ headOr NIL is = ap (λ (q : Slot). q .«next_sibling») (r .0) in
     rw (lt-ltb i 128 (b i (omega arith)))
-    (ap (λ (c : ℕ). i ∷ chain k s c) e ∙ ap (λ (m : List ℕ). i ∷ m) (chain-of-free-slots k s is (r .1) (λ j c. b j (omega arith)) (omega arith)))
+    (ap (λ (c : ℕ). i ∷ chain k s c) (r .1) ∙ ap (λ (m : List ℕ). i ∷ m) (chain-of-free-slots k s is (r .2) (λ j c. b j (omega arith)) (omega arith)))
 
 free-well : (s : Slots) (l : List ℕ) → FreeR s l → freeWell s l ≡ true
 unfolding freeWell
 free-well s [] r = refl
 free-well s (i ∷ is) r =
     both-true (same (at s i .«next_sibling») (headOr NIL is)) (freeWell s is)
-    (same-yes (at s i .«next_sibling») (headOr NIL is) (ap (λ (q : Slot). q .«next_sibling») (r .0))) (free-well s is (r .1))
+    (same-yes (at s i .«next_sibling») (headOr NIL is) (r .1)) (free-well s is (r .2))
 
 module _ {X : Type 0} where
-  head-tops : (d : ℕ) (f : Forest X) → headOr d (tops f) ≡ firstOr d f
+  pub head-tops : (d : ℕ) (f : Forest X) → headOr d (tops f) ≡ firstOr d f
   head-tops d nil = refl
   head-tops d (node i g x cs sib) = refl
 
-  final-tops : (d : ℕ) (f : Forest X) → finalOr d (tops f) ≡ lastOr d f
+  pub final-tops : (d : ℕ) (f : Forest X) → finalOr d (tops f) ≡ lastOr d f
   final-tops d nil = refl
   final-tops d (node i g x cs sib) = final-tops i sib
 

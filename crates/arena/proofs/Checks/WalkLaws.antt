@@ -215,7 +215,7 @@ occ-behind : (j x : ℕ) (l : List ℕ) → occ j (l ++ (x ∷ [])) ≡ occ j l 
 occ-behind j x [] = omega arith
 occ-behind j x (y ∷ l) = omega (arith, occ-behind j x l)
 
-occ-short : (j : ℕ) (l : List ℕ) → occ j l ≤ length l
+pub occ-short : (j : ℕ) (l : List ℕ) → occ j l ≤ length l
 occ-short j [] = omega arith
 occ-short j (y ∷ l) = omega (arith, occ-short j l, δ-le y j)
 

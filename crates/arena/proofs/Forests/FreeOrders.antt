@@ -93,7 +93,7 @@ freed-chain s h (i ∷ is) l u b e r =
     let m = len-put s i x in
     let a : at (put s i x) i ≡ x = at-put s i x (b i (omega arith)) in
     freed-chain (put s i x) i is (i ∷ l) (λ j. let w = u j in omega arith) (λ j c. let w = b j (omega arith) in omega arith) refl
-    (rw a (ap (λ (n : ℕ). idle (nextGeneration (at s i .generation)) n) e), free-frame s (put s i x) l (λ j c. at-other s i j x (λ q. let c′ : 0 < occ i l = rw q at c in omega arith)) r)
+    (rw a, rw a e, free-frame s (put s i x) l (λ j c. at-other s i j x (λ q. let c′ : 0 < occ i l = rw q at c in omega arith)) r)
 
 -- ---- the order of freeing
 

@@ -10,9 +10,9 @@ use native.Mathlib.Decide.{decLt}
 use borrow.Author.Tests.{lt-ltb, le-ltb}
 use lib.Dec.{ltb}
 use Rattle.field.specs.declared.NodeId.{NodeId}
-use Rattle.arithmetic.specs.Tests.{same, occ, headOr, nothing, just}
+use Rattle.arithmetic.specs.Tests.{same, occ, nothing, just}
 use Rattle.arena.specs.Forest.{Forest, nil, node, hasBoth, hasId, kidsOf, setKidsOf, cutOf, find, size}
-use Rattle.arena.specs.Slots.{NIL, Slots, at, used, idle, isLive, idAt}
+use Rattle.arena.specs.Slots.{NIL, Slots, at, used, isLive, idAt}
 use Rattle.arena.specs.declared.Slot.{Slot}
 use Rattle.arithmetic.proofs.TestLaws.{same-yes, δ-refl, eq-cases, zero-cases, bool-cases}
 use Rattle.arena.proofs.Forests.ForestLaws.{firstOr, lastOr, cnt, wt, top-le-cnt, kids, setKids, cut}
@@ -123,8 +123,8 @@ pub free-slots-are-dead : (a : Slots) (l : List ℕ) (j : ℕ) → FreeR a l →
 free-slots-are-dead a [] j r z = absurd (omega arith)
 free-slots-are-dead a (i ∷ is) j r z =
     eq-cases i j
-    (λ e s d. let r0 : at a j ≡ idle (at a j .generation) (headOr NIL is) = rw e at (r .0) in ap (λ (t : Slot). t .live) r0)
-    (λ e s d. free-slots-are-dead a is j (r .1) (omega arith))
+    (λ e s d. rw e at (r .0))
+    (λ e s d. free-slots-are-dead a is j (r .2) (omega arith))
 
 module _ {X : Type 0} {n : ℕ} {s : Slots} {free : ℕ} {t : Forest X} {fl : List ℕ} (r : Rel n s free t fl) where
   pub nodes-have-their-slots-generation : AllF (λ i g x. (at s i .generation ≡ g) × (at s i .live ≡ true)) t

@@ -146,8 +146,8 @@ module _ {X : Type 0} where
             (λ j c′. let oj = once r j in let kj = cnt-kids-le j p t (omega arith) in
             away j (λ e. let c″ : 0 < occ p fl = rw e at c′ in let op = once r p in omega arith) (λ e. let c″ : 0 < occ i fl = rw e at c′ in omega arith)
             (λ e. fresh j (below r j (omega arith)) (omega arith) (sym e)))
-            (r .frees .1);
-        head = ap (λ (s : Slot). s .«next_sibling») (r .frees .0);
+            (r .frees .2);
+        head = r .frees .1;
         cover = λ j jn. let h = r .cover j jn in let q = insert-count j p i g x t c in omega arith;
         inside = λ j jn. let h = r .inside j jn in let q = insert-count j p i g x t c in omega arith;
         root = λ j. top-set j p K′ t ∙ r .root j;

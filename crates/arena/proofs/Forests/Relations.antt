@@ -1,6 +1,7 @@
 -- The relation of slots and free chain to a forest and a list of free slots: the forest says each live slot, and every index below the
 -- limit is in just one of the two. Assumes nothing.
 use mathlib.Core.Path.{_≡_}
+use mathlib.Core.Bool.{false}
 use mathlib.Core.List.{List, [], _∷_}
 use Prim.Native.Nat.{ℕ, _+_, _≤_, _<_}
 use native.Mathlib.Omega.{arith}
@@ -8,20 +9,22 @@ use native.Mathlib.Decide.{decLt}
 use lib.ListN.{length}
 use Rattle.arithmetic.specs.Tests.{δ, occ, headOr}
 use Rattle.arena.specs.Forest.{Forest, size}
-use Rattle.arena.specs.Slots.{NIL, Slots, at, idle}
+use Rattle.arena.specs.Slots.{NIL, Slots, at}
 use Rattle.arithmetic.proofs.TestLaws.{δ-refl}
 use Rattle.arena.proofs.Forests.ForestLaws.{cnt, top}
 use Rattle.arena.proofs.Forests.Segments.{SegR}
 
+-- the free chain, as the rules ask it: its slots are dead, and each one's next is the one after it
 abbrev pub FreeR : Slots → List ℕ → Type 0
 FreeR a [] = Unit {0}
-FreeR a (i ∷ is) = (at a i ≡ idle (at a i .generation) (headOr NIL is)) × FreeR a is
+FreeR a (i ∷ is) = (at a i .live ≡ false) × (at a i .«next_sibling» ≡ headOr NIL is) × FreeR a is
 
 pub free-frame : (a b : Slots) (l : List ℕ) → ((j : ℕ) → 0 < occ j l → at b j ≡ at a j) → FreeR a l → FreeR b l
 free-frame a b [] h r = tt
 free-frame a b (i ∷ is) h r =
     let d = δ-refl i in
-    (rw (h i (omega arith)) (r .0), free-frame a b is (λ j c. h j (omega arith)) (r .1))
+    let e = h i (omega arith) in
+    (rw e (r .0), rw e (r .1), free-frame a b is (λ j c. h j (omega arith)) (r .2))
 
 -- ---- the relation
 

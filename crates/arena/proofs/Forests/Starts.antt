@@ -62,7 +62,7 @@ new-chain : (n i k : ℕ) → n ≤ 128 → suc i + k ≡ n → FreeR (newSlots 
 new-chain n i zero h e = tt
 new-chain n i (suc k) h e =
     let q : at (newSlots n 0 128) (suc i) ≡ idle 1 (headOr NIL (fromTo (suc (suc i)) k)) = slot-at n (suc i) (omega arith) ∙ new-idle n i k e in
-    (rw q, new-chain n (suc i) k h (omega arith))
+    (rw q, rw q, new-chain n (suc i) k h (omega arith))
 
 new-root : (n : ℕ) → at (newSlots n 0 128) 0 ≡ used 1 NIL NIL NIL NIL NIL
 unfolding newSlot

@@ -153,7 +153,7 @@ rects-keep π h l (c ∷ cs) [] j = refl
 rects-keep π h l (c ∷ cs) (r ∷ rs) j =
     rects-keep π h (set l c (withRect (layoutAt l c) r)) cs rs j ∙ a-layout-store-keeps π l c j (withRect (layoutAt l c) r) (h (layoutAt l c) r)
 
-rects-len : (l : List LayoutSlot) (cs : List ℕ) (rs : List Rect) → length (setRects l cs rs) ≡ length l
+pub rects-len : (l : List LayoutSlot) (cs : List ℕ) (rs : List Rect) → length (setRects l cs rs) ≡ length l
 unfolding setRects
 rects-len l [] rs = refl
 rects-len l (c ∷ cs) [] = refl

@@ -20,13 +20,13 @@ use Rattle.arithmetic.proofs.TestLaws.{eq-cases, same-refl}
 pub no-more : {G : Type 0} → false ≡ true → G
 no-more e = let z : _≡_ {A = ℕ} 0 1 = cc in absurd (omega arith)
 
-both : (a b : Bool) → (a && b) ≡ true → (a ≡ true) × (b ≡ true)
+pub both : (a b : Bool) → (a && b) ≡ true → (a ≡ true) × (b ≡ true)
 both true b e = (refl, e)
 both false b e = no-more e
 
 -- ---- the same are equal
 
-same-is : (m n : ℕ) → same m n ≡ true → m ≡ n
+pub same-is : (m n : ℕ) → same m n ≡ true → m ≡ n
 same-is m n e = eq-cases m n (λ q _ _. q) (λ _ s _. no-more (sym s ∙ e))
 
 pub same-z-is : (m n : ℤ) → sameZ m n ≡ true → m ≡ n
