@@ -7,5 +7,6 @@ pub mod Hit
 pub mod Fields
 pub mod Rules
 pub mod Forest
+pub mod Spelled
 pub mod Nodes
 pub mod Support

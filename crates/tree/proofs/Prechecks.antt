@@ -50,6 +50,10 @@ module _ (u : Ui) (d : NodeId) where
   unfolding precheck
   not-broken e = bool-cases (broken u) (λ b. not-both Broken (sym (rw b at e))) (λ b. b)
 
+  pub is-live : precheck u d ≡ Accepted → isLive (limitOf u) (u .slots) d ≡ true
+  unfolding precheck
+  is-live e = bool-cases (isLive (limitOf u) (u .slots) d) (λ l. l) (λ l. not-both Missing (sym (rw (not-broken e, l) at e)))
+
 -- ---- a tree that is not broken
 
 first : (a b : Bool) → (a && b) ≡ true → a ≡ true
@@ -119,6 +123,10 @@ module _ (u : Ui) (b : broken u ≡ false) where
       second-fourth-sixth
       (at (u .slots) 0 .live && (same (at (u .slots) 0 .parent) NIL && (same (at (u .slots) 0 .«prev_sibling») NIL && same (at (u .slots) 0 .«next_sibling») NIL)))
       (eachOnce (limitOf u) (u .slots) reached free) (all (nodeWell (u .slots)) reached) (same (u .free) (headOr NIL free)) (freeWell (u .slots) free) (same (u .live) (length reached)) (kept .1)
+
+  pub well-linked : linked (limitOf u) (u .slots) (u .free) (u .live) ≡ true
+  unfolding linksWell
+  well-linked = kept .1
 
   pub few-slots : limitOf u ≤ 128
   few-slots = leb-true (limitOf u) 128 (last-of-two (leb 1 (limitOf u)) (leb (limitOf u) 128) (kept .0))

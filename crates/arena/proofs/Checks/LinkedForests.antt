@@ -14,9 +14,9 @@ use Rattle.arena.specs.Forest.{Forest, nil, node, app, size}
 use Rattle.arena.specs.Slots.{NIL, Slots, at, used, chain, kidsAt, order}
 use Rattle.arena.specs.Rules.{aliveness, kidsWell, nodeWell, freeWell, once, eachOnce, linked}
 use Rattle.arena.specs.declared.Slot.{Slot}
-use Rattle.arithmetic.proofs.TestLaws.{same-refl, δ-refl, δ-same, δ-other, δ-le, eq-cases, zero-cases, bool-cases}
-use Rattle.arena.proofs.Styles.GeometryLaws.{no-more, both, same-is}
-use Rattle.arena.proofs.Forests.ForestLaws.{firstOr, lastOr, cnt, top, cnt-app, size-app}
+use Rattle.arithmetic.proofs.TestLaws.{δ-refl, δ-same, δ-other, δ-le, eq-cases, zero-cases, bool-cases}
+use Rattle.arena.proofs.Styles.GeometryLaws.{both, same-is}
+use Rattle.arena.proofs.Forests.ForestLaws.{firstOr, lastOr, cnt, cnt-app, size-app}
 use Rattle.arena.proofs.Forests.Segments.{SegR}
 use Rattle.arena.proofs.Forests.Relations.{Rel, FreeR}
 use Rattle.arena.proofs.Forests.Orders.{tops, occ-tops}
