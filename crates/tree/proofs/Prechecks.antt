@@ -16,7 +16,7 @@ use Rattle.arithmetic.specs.Tests.{same, all, occ, headOr, fromTo}
 use Rattle.arena.specs.Slots.{Slots, NIL, at, isLive, order, chain, kidsAt}
 use Rattle.tree.specs.Trees.{limitOf, statedOf}
 use Rattle.tree.specs.Broken.{broken, linksWell}
-use Rattle.arena.specs.Rules.{linked, eachOnce, aliveness, nodeWell, freeWell, stateWell, distinct, ownersWell}
+use Rattle.arena.specs.Rules.{linked, rootWell, eachOnce, aliveness, nodeWell, freeWell, stateWell, distinct, ownersWell}
 use Rattle.tree.specs.Calls.{Outcome, refuses, guarded, onLive}
 use Rattle.tree.specs.Answers.{precheck}
 use Rattle.tree.specs.declared.Ui.{Ui}
@@ -121,7 +121,7 @@ module _ (u : Ui) (b : broken u ≡ false) where
   unfolding linksWell linked
   parts =
       second-fourth-sixth
-      (at (u .slots) 0 .live && (same (at (u .slots) 0 .parent) NIL && (same (at (u .slots) 0 .«prev_sibling») NIL && same (at (u .slots) 0 .«next_sibling») NIL)))
+      (rootWell (u .slots))
       (eachOnce (limitOf u) (u .slots) reached free) (all (nodeWell (u .slots)) reached) (same (u .free) (headOr NIL free)) (freeWell (u .slots) free) (same (u .live) (length reached)) (kept .1)
 
   pub well-linked : linked (limitOf u) (u .slots) (u .free) (u .live) ≡ true

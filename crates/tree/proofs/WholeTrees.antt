@@ -79,5 +79,5 @@ not-broken-means-a-tree u long b = record {
   spells = held-is-spelled u (held u long b .forest) (held u long b .chained) (held u long b .rel) (held u long b .count);
   frees-the-subtree = frees u long b;
   leaves-the-rest = leaves u long b;
-  goes-all-the-way-down = a-hit-test-goes-all-the-way-down (held u long b .rel);
+  goes-all-the-way-down = a-hit-test-goes-all-the-way-down (held u long b .rel) (u .layout);
 }

@@ -3,18 +3,21 @@
 use Prim.Native.Nat.{ℕ, _+_, _≤_, _<_}
 use mathlib.Core.Path.{_≡_}
 use mathlib.Core.Logic.{_≢_}
-use mathlib.Core.Bool.{Bool, true, false}
+use mathlib.Core.Bool.{true, false}
 use lib.ListN.{length}
 use Rattle.field.specs.declared.NodeId.{NodeId}
+use Rattle.field.specs.declared.MaybeId.the-variants.{Present}
 use Rattle.arithmetic.specs.Tests.{δ, occ}
 use Rattle.arena.specs.Slots.{NIL, at, isLive, chain, kidsAt, unlink, freeing}
 use Rattle.arena.specs.Rules.{aliveness}
-use Rattle.arena.specs.Hit.{descend}
+use Rattle.arena.specs.Hit.{holdsAt}
 use Rattle.arena.specs.Forest.{Forest, size, cutOf}
 use Rattle.arena.specs.Spelled.{cnt, top, SegR}
 use Rattle.tree.specs.Trees.{limitOf}
 use Rattle.tree.specs.Broken.{broken}
+use Rattle.tree.specs.Input.{hitTest}
 use Rattle.tree.specs.Calls.{removeAt}
+use Rattle.arena.specs.declared.Pointer.{Pointer}
 use Rattle.tree.specs.declared.Ui.{Ui}
 
 -- The tree is the forest, of whose nodes nothing but the ids is said.
@@ -39,8 +42,9 @@ pub record WholeTree (u : Ui) : Type 0 where
   pub frees-the-subtree : (d : NodeId) → isLive (limitOf u) (u .slots) d ≡ true → d .index ≢ 0
       → (j : ℕ) → occ j (freeing (unlink (u .slots) (d .index)) (d .index)) + cnt j (cutOf d forest) ≡ cnt j forest
   pub leaves-the-rest : (d : NodeId) → isLive (limitOf u) (u .slots) d ≡ true → d .index ≢ 0 → Spells (removeAt u (d .index)) (cutOf d forest)
-  -- whatever holds the pixel, no child of the node where the descent ends does
-  pub goes-all-the-way-down : (p : ℕ → Bool) (c : ℕ) → 0 < occ c (kidsAt (u .slots) (descend p 128 (u .slots) 0)) → p c ≡ false
+  -- the node that a hit test names holds the pixel, and none of its children does
+  pub goes-all-the-way-down : (pixel : Pointer) (d : NodeId) → hitTest u pixel ≡ Present d
+      → (holdsAt (u .layout) pixel (d .index) ≡ true) × ((c : ℕ) → 0 < occ c (kidsAt (u .slots) (d .index)) → holdsAt (u .layout) pixel c ≡ false)
 
 -- Of every `Ui`: its array has 128 slots.
 abbrev pub NotBrokenMeansATree : Type 0

@@ -1,17 +1,21 @@
--- The descent of a hit test ends at a node none of whose children holds the pixel: each step goes down in a forest of at most 128 nodes,
--- so that 128 steps are enough. Assumes nothing.
+-- A hit test ends at a node that holds the pixel and none of whose children does: each step goes down in a forest of at most 128 nodes, so
+-- that 128 steps are enough. Assumes nothing.
 use mathlib.Core.Path.{_≡_, refl, sym, ap, _∙_, subst}
 use mathlib.Core.Logic.{_⊎_, inl, inr}
 use mathlib.Core.Bool.{Bool, true, false, cond}
-use mathlib.Core.List.{List}
+use mathlib.Core.List.{List, [], _∷_}
 use Prim.Native.Nat.{ℕ, zero, suc, _≤_, _<_}
 use native.Mathlib.Omega.{arith}
 use Rattle.arithmetic.specs.Tests.{occ}
-use Rattle.arena.specs.Slots.{NIL, Slots, at, kidsAt}
-use Rattle.arena.specs.Hit.{lastOf, descend}
+use Rattle.field.specs.declared.NodeId.{NodeId}
+use Rattle.field.specs.declared.MaybeId.the-variants.{Absent, Present}
+use Rattle.arena.specs.Slots.{NIL, Slots, at, kidsAt, idAt}
+use Rattle.arena.specs.Hit.{lastOf, descend, holdsAt, hitAt}
 use Rattle.arena.specs.Forest.{Forest, nil, node, size}
 use Rattle.arena.specs.declared.Slot.{Slot}
-use Rattle.arithmetic.proofs.TestLaws.{eq-cases}
+use Rattle.arena.specs.declared.LayoutSlot.{LayoutSlot}
+use Rattle.arena.specs.declared.Pointer.{Pointer}
+use Rattle.arithmetic.proofs.TestLaws.{eq-cases, bool-cases}
 use Rattle.arena.proofs.Forests.ForestLaws.{firstOr, cnt, top}
 use Rattle.arena.proofs.Forests.Segments.{SegR}
 use Rattle.arena.proofs.Forests.Relations.{Rel}
@@ -83,12 +87,41 @@ module _ {X : Type 0} (a : Slots) (p : ℕ → Bool) where
             (ends-below k (m .who) (m .what) (m .is-first) (m .seg) (λ j c. let v = m .counts j in b j (omega arith)) (omega arith) (omega arith)))
       ]
 
+-- what is named passes, as what the descent starts at does
+last-passes : (p : ℕ → Bool) (d : ℕ) (l : List ℕ) → p d ≡ true → p (lastOf p d l) ≡ true
+unfolding lastOf
+last-passes p d [] e = e
+last-passes p d (i ∷ is) e = last-passes p (cond (p i) i d) is (go (p i) refl)
+  where
+    go : (b : Bool) → p i ≡ b → p (cond b i d) ≡ true
+    go true h = h
+    go false h = e
+
+descent-passes : (p : ℕ → Bool) (k : ℕ) (s : Slots) (i : ℕ) → p i ≡ true → p (descend p k s i) ≡ true
+unfolding descend
+descent-passes p zero s i e = e
+descent-passes p (suc k) s i e = descent-passes p k s (lastOf p i (kidsAt s i)) (last-passes p i (kidsAt s i) e)
+
 module _ {X : Type 0} {n : ℕ} {s : Slots} {free : ℕ} {t : Forest X} {fl : List ℕ} (r : Rel n s free t fl) where
-  pub a-hit-test-goes-all-the-way-down : (p : ℕ → Bool) (c : ℕ) → 0 < occ c (kidsAt s (descend p 128 s 0)) → p c ≡ false
-  a-hit-test-goes-all-the-way-down p =
+  descent-ends : (p : ℕ → Bool) → Ends s p (descend p 128 s 0)
+  descent-ends p =
       let R = one-root t (r .root) in
       let q : SegR s NIL NIL (node 0 (R .gen) (R .load) (R .below) nil) NIL = subst (λ (f : Forest X). SegR s NIL NIL f NIL) (R .whole) (r .links) in
       let z : InRange (node 0 (R .gen) (R .load) (R .below) nil) = subst (λ (f : Forest X). InRange f) (R .whole) (rel-in-range r) in
       let m = rel-size r in
       let v : size t ≡ size (node 0 (R .gen) (R .load) (R .below) nil) = ap size (R .whole) in
       ends-below s p 128 0 (R .below) (ap (λ (x : Slot). x .«first_child») (q .0)) (q .1) (λ j c. z j (omega arith)) (omega arith) (omega arith)
+
+  -- the node hit holds the pixel, and none of its children does
+  pub a-hit-test-goes-all-the-way-down : (l : List LayoutSlot) (pixel : Pointer) (d : NodeId) → hitAt s l pixel ≡ Present d
+      → (holdsAt l pixel (d .index) ≡ true) × ((c : ℕ) → 0 < occ c (kidsAt s (d .index)) → holdsAt l pixel c ≡ false)
+  unfolding hitAt
+  a-hit-test-goes-all-the-way-down l pixel d e =
+      let p : ℕ → Bool = holdsAt l pixel in
+      bool-cases (p 0)
+      (λ b.
+      let w : Present (idAt s (descend p 128 s 0)) ≡ Present d = rw b at e in
+      let v : idAt s (descend p 128 s 0) ≡ d = cc in
+      let i : descend p 128 s 0 ≡ d .index = ap (λ (x : NodeId). x .index) v in
+      (ap p (sym i) ∙ descent-passes p 128 s 0 b, subst (Ends s p) i (descent-ends p)))
+      (λ b. let w : Absent ≡ Present d = rw b at e in let z : _≡_ {A = ℕ} 0 1 = cc in absurd (omega arith))
