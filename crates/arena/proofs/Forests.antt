@@ -1,6 +1,5 @@
 pub mod ForestLaws
 pub mod Payloads
-pub mod Rounds
 pub mod Segments
 pub mod Relations
 pub mod Orders

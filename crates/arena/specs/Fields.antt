@@ -9,8 +9,7 @@ use Rattle.field.specs.declared.MaybeId.{MaybeId}
 use Rattle.field.specs.declared.MaybeId.the-variants.{Absent, Present}
 use Rattle.field.specs.declared.Field.{Field}
 use Rattle.arithmetic.specs.Tests.{Maybe, nothing, just}
-use Rattle.arena.specs.Slots.{Slots, isLive}
-use Rattle.arena.specs.States.{isId}
+use Rattle.arena.specs.Slots.{Slots, isLive, isId}
 
 -- The first field that passes a test.
 abbrev pub firstField : (Field → Bool) → List Field → Maybe Field

@@ -1,15 +1,6 @@
 pub mod Slots
-pub mod Styles
-pub mod Geometry
-pub mod States
-pub mod Layout
-pub mod Hit
-pub mod Fields
-pub mod Rules
 pub mod Forest
 pub mod Spelled
-pub mod Nodes
-pub mod History
-pub mod Runs
-pub mod SourceRuns
+pub mod Fields
+pub mod Rules
 pub mod Support

@@ -1,17 +1,15 @@
--- Document 01, "Link rules": those on slots, on states and on fields.
+-- Document 01, "Link rules": those on slots, on the slots stated and on fields.
 use Prim.Native.Nat.{ℕ, _+_}
 use mathlib.Core.Bool.{Bool, true, _&&_, not, cond}
 use mathlib.Core.List.{List, [], _∷_}
-use lib.Dec.{ltb, leb}
+use lib.Dec.{ltb}
 use lib.ListN.{length}
 use Rattle.field.specs.declared.Field.{Field}
 use Rattle.field.specs.declared.MaybeId.{MaybeId}
 use Rattle.field.specs.declared.MaybeId.the-variants.{Absent, Present}
 use Rattle.arithmetic.specs.Tests.{same, occ, headOr, finalOr, fromTo, all}
-use Rattle.arena.specs.Slots.{NIL, Slots, at, chain, kidsAt, order}
-use Rattle.arena.specs.States.{inPool, isId}
+use Rattle.arena.specs.Slots.{NIL, Slots, at, chain, kidsAt, order, isId}
 use Rattle.arena.specs.declared.Slot.{Slot}
-use Rattle.arena.specs.declared.StateSlot.{StateSlot}
 
 -- 1 where the slot is live, else 0.
 abbrev pub aliveness : Slot → ℕ
@@ -57,10 +55,6 @@ linked n s head live =
     && (eachOnce n s reached free
     && (all (nodeWell s) reached
     && (same head (headOr NIL free) && (freeWell s free && same live (length reached)))))
-
--- Worn and table numbers in the pool or 65535; bits at most 7.
-unfoldable pub stateWell : ℕ → StateSlot → Bool
-stateWell count s = inPool count (s .applied) && (all (inPool count) (s .table) && leb (s .bits) 7)
 
 -- No number twice, and all below n.
 unfoldable pub distinct : ℕ → List ℕ → Bool

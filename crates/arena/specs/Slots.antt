@@ -5,6 +5,8 @@ use mathlib.Core.List.{List, [], _∷_, _++_}
 use lib.Dec.{ltb}
 use lib.ListN.{getD, set}
 use Rattle.field.specs.declared.NodeId.{NodeId}
+use Rattle.field.specs.declared.MaybeId.{MaybeId}
+use Rattle.field.specs.declared.MaybeId.the-variants.{Absent, Present}
 use Rattle.arithmetic.specs.Tests.{same}
 use Rattle.arena.specs.declared.Slot.{Slot}
 
@@ -55,6 +57,14 @@ isLive limit s d = ltb (d .index) limit && (at s (d .index) .live && same (at s 
 -- The id that names slot i.
 abbrev pub idAt : Slots → ℕ → NodeId
 idAt s i = record { index = i; generation = at s i .generation }
+
+-- The id is the one there.
+abbrev pub sameId : NodeId → NodeId → Bool
+sameId d e = same (d .index) (e .index) && same (d .generation) (e .generation)
+
+abbrev pub isId : MaybeId → NodeId → Bool
+isId Absent d = false
+isId (Present e) d = sameId e d
 
 -- The id that stands where there is none.
 abbrev pub nobody : NodeId

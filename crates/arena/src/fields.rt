@@ -12,7 +12,7 @@ ghost use Rattle.arena.specs.Support.Places.{placeOf, fieldAt};
 ghost use Rattle.arena.specs.Rules.{ownersWell, lone};
 use super::Slot;
 use super::links;
-use super::state::is_id;
+use super::links::is_id;
 use field::Field;
 use field::MaybeId;
 use field::NodeId;

@@ -1,7 +1,7 @@
 // Slots and their links, over the array of slots by value. An index that is no slot reads the zero slot and stores nothing.
 ghost use mathlib.Core.Bool.{cond};
 ghost use mathlib.Core.Path.{_≡_};
-ghost use Rattle.arena.specs.Slots.{at, put, isLive, idAt, change, setFirst, setLast, setPrev, setNext, linkLast, NIL, Slots, idle, nextGeneration, freed};
+ghost use Rattle.arena.specs.Slots.{at, put, isLive, idAt, sameId, isId, change, setFirst, setLast, setPrev, setNext, linkLast, NIL, Slots, idle, nextGeneration, freed};
 ghost use Rattle.arena.specs.Slots as links;
 ghost use Prim.Native.Nat.{_≤_};
 ghost use lib.ListN.{length, getD};
@@ -9,6 +9,7 @@ ghost use Rattle.arena.specs.Support.Lists.{listed, orderOf, noneListed,
 ghost use Rattle.arithmetic.specs.Tests.{same, finalOr};
 ghost use Rattle.arena.specs.declared.Slot.{Slot};
 use crate::Slot;
+use field::MaybeId;
 use field::NodeId;
 
 // Slots listed: the first `count` items.
@@ -82,6 +83,23 @@ pub fn is_live(limit: u32, slots: [Slot; 128], d: NodeId) -> bool
 {
     let s = slot_at(slots, d.index);
     (d.index < limit) & (s.live & (s.generation == d.generation))
+}
+
+// Whether two ids name the same node.
+pub fn same_id(d: NodeId, e: NodeId) -> bool
+    ensures { λ r. ⌜ r ≡ sameId d e ⌝ }
+{
+    (d.index == e.index) & (d.generation == e.generation)
+}
+
+// Whether an id that may be missing is this one.
+pub fn is_id(m: MaybeId, d: NodeId) -> bool
+    ensures { λ r. ⌜ r ≡ isId m d ⌝ }
+{
+    match m {
+        MaybeId::Absent => false,
+        MaybeId::Present(e) => same_id(e, d),
+    }
 }
 
 // The slots with v as the first child of slot i.
@@ -270,7 +288,7 @@ pub fn listed_count(o: Order) -> u32
 }
 
 // The slot listed at place k, or d.
-pub(crate) fn listed_at(o: Order, k: u32, d: u32) -> u32
+pub fn listed_at(o: Order, k: u32, d: u32) -> u32
     ensures { λ r. ⌜ r ≡ getD (listed o) k d ⌝ }
 {
     if o.count <= k {

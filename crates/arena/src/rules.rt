@@ -15,7 +15,7 @@ use crate::Slot;
 const NIL: u32 = 4294967295;
 
 // What a walk along links listed, the first `count` items, and whether the links that it went along are right.
-pub(crate) struct Walked {
+pub struct Walked {
     pub items: [u32; 128],
     pub count: u32,
     pub well: bool,
@@ -35,7 +35,7 @@ fn push(items: &mut [u32; 128], count: u32, i: u32) -> u32
 
 // The slots reached from `start`, parents before children, and whether the links of each to its children are right. The list is its
 // own queue: `at` is the place of the node whose children are passed.
-pub(crate) fn reach(slots: [Slot; 128], start: u32) -> Walked
+fn reach(slots: [Slot; 128], start: u32) -> Walked
     requires { ⌜ start < 128 ⌝ }
     ensures { λ r. ⌜ (r .count ≤ 128) × Small (r .items) × (take (r .count) (r .items) ≡ order 128 slots (start ∷ [])) × (r .well ≡ all (nodeWell slots) (order 128 slots (start ∷ []))) ⌝ }
 {
@@ -81,8 +81,15 @@ pub(crate) fn reach(slots: [Slot; 128], start: u32) -> Walked
     Walked { items, count, well }
 }
 
+// The slots reached from the root.
+pub fn reach_root(slots: [Slot; 128]) -> Walked
+    ensures { λ r. ⌜ (r .count ≤ 128) × Small (r .items) × (take (r .count) (r .items) ≡ order 128 slots (0 ∷ [])) × (r .well ≡ all (nodeWell slots) (order 128 slots (0 ∷ []))) ⌝ }
+{
+    reach(slots, 0)
+}
+
 // The slots from `free` on by next links, and whether the last has none.
-pub(crate) fn free_chain(slots: [Slot; 128], free: u32) -> Walked
+fn free_chain(slots: [Slot; 128], free: u32) -> Walked
     ensures { λ r. ⌜ (r .count ≤ 128) × Small (r .items) × (take (r .count) (r .items) ≡ chain 128 slots free) × (r .well ≡ (same free (headOr NIL (chain 128 slots free)) && freeWell slots (chain 128 slots free))) ⌝ }
 {
     let mut items = [0u32; 128];

@@ -12,6 +12,13 @@ pub pick-of : {A : Type 0} (P : A → Type 0) (t : Bool) {x y : A} → (t ≡ tr
 pick-of P true f g = f refl
 pick-of P false f g = g refl
 
+pub no-more : {G : Type 0} → false ≡ true → G
+no-more e = absurd (false≢true e)
+
+pub both : (a b : Bool) → (a && b) ≡ true → (a ≡ true) × (b ≡ true)
+both true b e = (refl, e)
+both false b e = no-more e
+
 pub and-left : (s t : Bool) → s && t ≡ true → s ≡ true
 and-left true t e = refl
 and-left false t e = e

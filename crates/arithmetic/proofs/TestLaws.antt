@@ -1,7 +1,7 @@
 -- Equality of numbers as a test, and as a count of 0 or 1. Assumes nothing.
-use mathlib.Core.Path.{_≡_, refl, sym, subst}
+use mathlib.Core.Path.{_≡_, refl, sym, subst, _∙_}
 use mathlib.Core.Logic.{_≢_, _⊎_, inl, inr}
-use mathlib.Core.Bool.{Bool, true, false, cond}
+use mathlib.Core.Bool.{Bool, true, false, false≢true, cond}
 use Prim.Native.Nat.{ℕ, zero, suc, _≤_, _<_}
 use lib.Dec.{T, eqb, eqb→eq, eqb-refl}
 use native.Mathlib.Omega.{arith}
@@ -61,6 +61,9 @@ eq-cases {G = G} i j f g = go (same-cases i j)
     go : ((i ≡ j) × (same i j ≡ true)) ⊎ ((i ≢ j) × (same i j ≡ false)) → G
     go (inl p) = f (p .0) (p .1) (δ-same i j (p .0))
     go (inr p) = g (p .0) (p .1) (δ-other i j (p .0))
+
+pub same-is : (m n : ℕ) → same m n ≡ true → m ≡ n
+same-is m n e = eq-cases m n (λ q _ _. q) (λ _ s _. absurd (false≢true (sym s ∙ e)))
 
 pub zero-cases {ℓ} : {G : Type ℓ} (n : ℕ) → (n ≡ 0 → G) → (0 < n → G) → G
 zero-cases {G = G} n f g = go n refl

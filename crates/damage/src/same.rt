@@ -10,9 +10,9 @@ use tree::StatePatch;
 use tree::StateSlot;
 use tree::Style;
 use tree::Ui;
-use tree::state::is_id;
+use tree::links::is_id;
+use tree::links::same_id;
 use tree::state::moves_geometry;
-use tree::state::same_id;
 
 fn same_colour(a: [u8; 4], b: [u8; 4]) -> bool {
     check::same(&a, &b)

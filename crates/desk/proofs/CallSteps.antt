@@ -15,9 +15,9 @@ use Rattle.field.specs.declared.MaybeId.{MaybeId}
 use Rattle.field.specs.declared.MaybeId.the-variants.{Absent, Present}
 use Rattle.field.specs.declared.Field.{Field}
 use Rattle.arithmetic.specs.Tests.{same, δ, all, Maybe, nothing, just}
-use Rattle.tree.specs.Slots.{NIL, idAt, at, nobody}
+use Rattle.tree.specs.Slots.{NIL, idAt, at, nobody, sameId}
 use Rattle.tree.specs.Styles.{noPatch}
-use Rattle.tree.specs.States.{inPool, sameId}
+use Rattle.tree.specs.States.{inPool}
 use Rattle.tree.specs.Wearing.{styledAt, tabledAt}
 use Rattle.tree.specs.Layout.{passed, viewRect, sameView}
 use Rattle.tree.specs.Forest.{Forest, nil, node, hasBoth, size, anyF, cutOf}
@@ -43,9 +43,9 @@ use Rattle.tree.specs.History.{History, Call, Change, has, refusalOf, refusalOf
 use Rattle.tree.specs.History.Call.{insert, change, ask}
 use Rattle.tree.specs.History.Change.{remove, setStyle, setStateTable, setPatchPool, makeField, solve, handle, nextOutput}
 use Rattle.desk.specs.Demand3.{step, Machine, MachineChange}
-use Rattle.arena.specs.declared.UiEvent.{UiEvent}
-use Rattle.arena.specs.declared.UiEvent.the-variants.{PointerMoved, PointerPressed, PointerReleased, TextEntered, Edit}
-use Rattle.arena.specs.declared.Key.the-variants.{Char, Op}
+use Rattle.boxes.specs.declared.UiEvent.{UiEvent}
+use Rattle.boxes.specs.declared.UiEvent.the-variants.{PointerMoved, PointerPressed, PointerReleased, TextEntered, Edit}
+use Rattle.boxes.specs.declared.Key.the-variants.{Char, Op}
 use Rattle.desk.proofs.Invariant.{NamedBy, OwnText, Inv, inv-after, styling-under, same-nodes-each, same-nodes-some, same-nodes-placed, with-nodes, with-styling, with-texts, with-outputs}
 use Rattle.desk.proofs.AnswerLaws.{Kept, AsSaid, accepted-as-said, refused-as-said, guarded-as-said, live-as-said, only-if, only-unless, change-kept}
 use Rattle.desk.proofs.ReadSteps.{asks}

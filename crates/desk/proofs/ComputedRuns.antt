@@ -12,11 +12,11 @@ use Rattle.arithmetic.specs.Tests.{same, δ}
 use Rattle.tree.specs.Trees.{withStyles, withStated, withPass, withInteraction, withWaiting}
 use Rattle.tree.specs.Slots.{at, isLive, chain, kidsAt, order, newSlot, newSlots}
 use Rattle.tree.specs.Styles.{layoutAt, stateAt}
-use Rattle.tree.specs.States.{entryOf, inPool, wear, bitsOf, wearAll, liveSlot, bearing}
+use Rattle.tree.specs.States.{entryOf, inPool, wear, bitsOf, wearAll, liveSlot, bearing, stateWell}
 use Rattle.tree.specs.Wearing.{bitsAt, refreshed}
 use Rattle.tree.specs.Layout.{boxes, place, measureAt, measureAll, setRects, arrangeAt, arrangeAll, passed, holds}
 use Rattle.tree.specs.Hit.{lastOf, descend, holdsAt, hitAt}
-use Rattle.tree.specs.Rules.{kidsWell, nodeWell, freeWell, eachOnce, linked, stateWell, distinct, ownersWell}
+use Rattle.tree.specs.Rules.{kidsWell, nodeWell, freeWell, eachOnce, linked, distinct, ownersWell}
 use Rattle.tree.specs.Broken.{linksWell, broken}
 use Rattle.tree.specs.Calls as tree-Calls
 use Rattle.tree.specs.Calls.{guarded, fresh, newTree}
@@ -26,7 +26,7 @@ use Rattle.desk.specs.Demand3.{step, run}
 use Rattle.tree.specs.History.{Call, History, limitFrom, start, refusalOf, grown, accept, recorded}
 use Rattle.tree.specs.History.Call.{insert, change}
 use Rattle.tree.specs.History.Change.{makeField, solve, handle}
-use Rattle.arena.specs.declared.UiEvent.the-variants.{PointerMoved, PointerPressed, PointerReleased}
+use Rattle.boxes.specs.declared.UiEvent.the-variants.{PointerMoved, PointerPressed, PointerReleased}
 
 -- The definitions that a run computes with: to unfold this one is to unfold them all.
 computing : Unit {0}

@@ -13,7 +13,8 @@ use Rattle.field.specs.Text.{Text, text, bytesOf, caretOf}
 use Rattle.field.specs.Metres.{isPoint, isDigit, behind, metresOf}
 use Rattle.field.specs.declared.NodeId.{NodeId}
 use Rattle.arithmetic.specs.Tests.{same, all, Maybe, nothing, just, within}
-use Rattle.tree.specs.States.{inPool, sameId}
+use Rattle.tree.specs.States.{inPool}
+use Rattle.tree.specs.Slots.{sameId, nobody}
 use Rattle.tree.specs.Forest.{Forest, nil, node, hasBoth, hasId, kidsOf, setKidsOf, cutOf, find, size}
 use Rattle.tree.specs.Nodes.{Info, withField, changeNamed, changeOf, wears, restyled, withTable, bare, hasField}
 use Rattle.tree.specs.Layout.{viewRect, sameView}
@@ -33,15 +34,14 @@ use Rattle.tree.specs.History.Question.{fieldText, fieldCursor, metres, rect, l
 use Rattle.desk.specs.Demand3.{step, run, feed, Machines, follow, refusals}
 use Rattle.desk.specs.Keys.{typedOn, textOfKeys, Log, logKey, logEvent, beginAt, logField, loggedChange, logged, logs, noKeys}
 use Rattle.desk.specs.Corollaries.{NeverOne, newOne, treeAfter, historyAfter, keysAfter, HasField, Corollaries}
-use Rattle.arena.specs.declared.UiEvent.{UiEvent}
-use Rattle.arena.specs.declared.UiEvent.the-variants.{PointerMoved, PointerPressed, PointerReleased, TextEntered, Edit}
-use Rattle.arena.specs.declared.Key.{Key}
-use Rattle.arena.specs.declared.Key.the-variants.{Char, Op}
+use Rattle.boxes.specs.declared.UiEvent.{UiEvent}
+use Rattle.boxes.specs.declared.UiEvent.the-variants.{PointerMoved, PointerPressed, PointerReleased, TextEntered, Edit}
+use Rattle.boxes.specs.declared.Key.{Key}
+use Rattle.boxes.specs.declared.Key.the-variants.{Char, Op}
 use Rattle.desk.proofs.Invariant.{OwnName, OwnText, Inv, SameNodes, same-nodes-each, same-nodes-some, same-nodes-placed}
 use Rattle.desk.proofs.AnswerLaws.{Kept}
 use Rattle.desk.proofs.CallSteps.{every-call}
 use Rattle.desk.proofs.Demand3.{starts, demand-3}
-use Rattle.tree.specs.Slots.{nobody}
 
 -- ---- number 1
 

@@ -19,8 +19,8 @@ use Rattle.tree.specs.History.{History, Call, Change, limitFrom, start, refusal
 use Rattle.tree.specs.History.Call.{insert, change, ask}
 use Rattle.tree.specs.History.Change.{remove, setStyle, setStateTable, setPatchPool, makeField, solve, handle, nextOutput}
 use Rattle.desk.specs.Demand3.{step, run, numbers, feed, idGiven, given, Machines, follow, refusals, Others, Distinct, HoldsFrom, Demand3}
-use Rattle.arena.specs.declared.UiEvent.{UiEvent}
-use Rattle.arena.specs.declared.UiEvent.the-variants.{PointerMoved, PointerPressed, PointerReleased, TextEntered, Edit}
+use Rattle.boxes.specs.declared.UiEvent.{UiEvent}
+use Rattle.boxes.specs.declared.UiEvent.the-variants.{PointerMoved, PointerPressed, PointerReleased, TextEntered, Edit}
 use Rattle.desk.proofs.Invariant.{Inv}
 use Rattle.desk.proofs.NameLaws.{id-cases}
 use Rattle.desk.proofs.AnswerLaws.{Kept}

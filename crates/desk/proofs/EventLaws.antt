@@ -9,8 +9,7 @@ use Rattle.field.specs.declared.Field.{Field}
 use Rattle.field.specs.declared.MaybeId.{MaybeId}
 use Rattle.field.specs.declared.MaybeId.the-variants.{Absent, Present}
 use Rattle.arithmetic.specs.Tests.{Maybe, nothing, just}
-use Rattle.tree.specs.Slots.{isLive}
-use Rattle.tree.specs.States.{isId}
+use Rattle.tree.specs.Slots.{isLive, isId}
 use Rattle.tree.specs.Input.{hitTest}
 use Rattle.tree.specs.Hit.{hitAt}
 use Rattle.tree.specs.Fields.{fieldOf}
@@ -19,10 +18,10 @@ use Rattle.tree.specs.declared.Interaction.{Interaction}
 use Rattle.tree.specs.Types.{Pointer}
 use Rattle.tree.specs.declared.Ui.{Ui}
 use Rattle.desk.specs.Events.{activated, activate, foldedBy, hasChanged, keyedField, editFold, editField, editFocused, releasedOn, appliedEvent, hitOf}
-use Rattle.arena.specs.declared.UiEvent.{UiEvent}
-use Rattle.arena.specs.declared.UiEvent.the-variants.{PointerMoved, PointerPressed, PointerReleased, TextEntered, Edit}
-use Rattle.arena.specs.declared.Key.{Key}
-use Rattle.arena.specs.declared.Key.the-variants.{Char, Op}
+use Rattle.boxes.specs.declared.UiEvent.{UiEvent}
+use Rattle.boxes.specs.declared.UiEvent.the-variants.{PointerMoved, PointerPressed, PointerReleased, TextEntered, Edit}
+use Rattle.boxes.specs.declared.Key.{Key}
+use Rattle.boxes.specs.declared.Key.the-variants.{Char, Op}
 
 -- Slots, boxes and pointer are what they were.
 pub record Stays (u v : Ui) : Type 0 where

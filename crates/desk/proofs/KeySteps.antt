@@ -15,7 +15,7 @@ use Rattle.field.specs.declared.EditOp.{EditOp}
 use Rattle.field.specs.declared.EditOp.the-variants.{Backspace, Delete, Left, Right, Home, End}
 use Rattle.field.proofs.Laws.{edit-keeps-the-rules, edit-keeps-64-bytes, edit-is-the-texts, insert-keeps-the-rules, insert-keeps-64-bytes, insert-is-the-texts}
 use Rattle.arithmetic.specs.Tests.{Maybe, nothing, just}
-use Rattle.tree.specs.States.{sameId}
+use Rattle.tree.specs.Slots.{sameId, nobody}
 use Rattle.tree.specs.Forest.{Forest, nil, node, hasId, mapF}
 use Rattle.tree.specs.Nodes.{Info, withField, isNamed, changeNamed}
 use Rattle.tree.specs.Fields.{owns, fieldOf, changeFirst}
@@ -29,11 +29,10 @@ use Rattle.tree.proofs.Relation.{Texts}
 use Rattle.tree.proofs.FieldParts.{retexted, edit-keeps-texts, no-edit-of-a-dead-id, no-edit-without-a-field, unchanged-at-each-node}
 use Rattle.desk.specs.Events.{keyedField, hasChanged, editFold, foldedBy, editField, editFocused}
 use Rattle.tree.specs.History.{History, withTree, idNamed, keyText, mapMaybe, typedInto}
-use Rattle.arena.specs.declared.Key.{Key}
-use Rattle.arena.specs.declared.Key.the-variants.{Char, Op}
+use Rattle.boxes.specs.declared.Key.{Key}
+use Rattle.boxes.specs.declared.Key.the-variants.{Char, Op}
 use Rattle.desk.proofs.Invariant.{NameIn, InputAgrees, Inv, with-input, with-texts}
 use Rattle.desk.proofs.NameLaws.{ids-say-the-names}
-use Rattle.tree.specs.Slots.{nobody}
 
 -- ---- what a key does to a field
 

@@ -9,8 +9,8 @@ use Rattle.field.specs.declared.NodeId.{NodeId}
 use Rattle.field.specs.declared.MaybeId.{MaybeId}
 use Rattle.field.specs.declared.MaybeId.the-variants.{Present}
 use Rattle.arithmetic.specs.Tests.{Maybe, nothing, just}
-use Rattle.tree.specs.Slots.{Slots, at, idAt, nobody}
-use Rattle.tree.specs.States.{sameId, isId, bitsOf}
+use Rattle.tree.specs.Slots.{Slots, at, idAt, nobody, sameId, isId}
+use Rattle.tree.specs.States.{bitsOf}
 use Rattle.tree.specs.Wearing.{bitsAt}
 use Rattle.tree.specs.Forest.{Forest}
 use Rattle.tree.specs.Nodes.{Info, isNamed, bitsFor}

@@ -16,9 +16,9 @@ use Rattle.field.specs.declared.Field.{Field}
 use Rattle.arithmetic.specs.Tests.{same, all, Maybe, nothing, just}
 use Rattle.arithmetic.proofs.BoolLaws.{pick-of, and-left, and-right}
 use Rattle.arithmetic.proofs.TestLaws.{eq-cases, same-yes}
-use Rattle.tree.specs.Slots.{NIL, isLive, nobody}
+use Rattle.tree.specs.Slots.{NIL, isLive, nobody, isId}
 use Rattle.tree.specs.Styles.{noState, stateAt}
-use Rattle.tree.specs.States.{inPool, isId}
+use Rattle.tree.specs.States.{inPool}
 use Rattle.tree.specs.Fields.{owns, fieldOf, firstField, vacant, reclaimed, changeFirst}
 use Rattle.tree.specs.Trees.{limitOf, waitingOf}
 use Rattle.tree.specs.Broken.{broken}
@@ -42,10 +42,10 @@ use Rattle.tree.specs.History.Call.{insert, change, ask}
 use Rattle.tree.specs.History.Change.{remove, setStyle, setStateTable, setPatchPool, makeField, solve, handle, nextOutput}
 use Rattle.desk.specs.Demand3.{step, changeStep, run, Machine, MachineChange, Machines}
 use Rattle.desk.specs.CallLaws.{MachineTree, NotBrokenStays}
-use Rattle.arena.specs.declared.UiEvent.{UiEvent}
-use Rattle.arena.specs.declared.UiEvent.the-variants.{PointerMoved, PointerPressed, PointerReleased, TextEntered, Edit}
-use Rattle.arena.specs.declared.Key.{Key}
-use Rattle.arena.specs.declared.Key.the-variants.{Char, Op}
+use Rattle.boxes.specs.declared.UiEvent.{UiEvent}
+use Rattle.boxes.specs.declared.UiEvent.the-variants.{PointerMoved, PointerPressed, PointerReleased, TextEntered, Edit}
+use Rattle.boxes.specs.declared.Key.{Key}
+use Rattle.boxes.specs.declared.Key.the-variants.{Char, Op}
 use Rattle.desk.proofs.KeySteps.{key-keeps-owner, key-keeps-rules}
 
 -- ---- lengths as tests

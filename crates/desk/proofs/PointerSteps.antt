@@ -12,18 +12,17 @@ use lib.Seq.{length-take-le}
 use Rattle.field.specs.declared.MaybeId.{MaybeId}
 use Rattle.field.specs.declared.MaybeId.the-variants.{Absent, Present}
 use Rattle.arithmetic.specs.Tests.{Maybe, nothing, just}
-use Rattle.tree.specs.States.{isId}
+use Rattle.tree.specs.Slots.{isId, nobody}
 use Rattle.tree.specs.Trees.{limitOf, waitingOf, withInteraction}
 use Rattle.tree.specs.declared.Ui.{Ui}
 use Rattle.arithmetic.proofs.TestLaws.{bool-cases, eq-cases}
 use Rattle.tree.proofs.Relation.{Queue}
 use Rattle.desk.specs.Events.{pressedOn, activated, activate, releasedOn, appliedEvent, hitOf}
 use Rattle.tree.specs.History.{History, Input, withInput, idNamed, hitName, sameName, afterEvent}
-use Rattle.arena.specs.declared.UiEvent.the-variants.{PointerMoved, PointerPressed, PointerReleased}
+use Rattle.boxes.specs.declared.UiEvent.the-variants.{PointerMoved, PointerPressed, PointerReleased}
 use Rattle.desk.proofs.Invariant.{NameIn, NamedBy, Inv, with-input, with-outputs}
 use Rattle.desk.proofs.NameLaws.{equal-ids-are-the-same, id-cases}
 use Rattle.desk.proofs.RefreshSteps.{hits-agree}
-use Rattle.tree.specs.Slots.{nobody}
 
 pub waiting-length : (u : Ui) → limitOf u ≤ 128 → Queue u → length (waitingOf u) ≡ u .«output_count»
 waiting-length u m q = length-take-le (u .«output_count») (u .outputs) (let a = q .few in let b = q .long in omega arith)

@@ -13,7 +13,7 @@ use Rattle.field.specs.declared.NodeId.{NodeId}
 use Rattle.field.specs.declared.MaybeId.{MaybeId}
 use Rattle.field.specs.declared.MaybeId.the-variants.{Absent, Present}
 use Rattle.arithmetic.specs.Tests.{same}
-use Rattle.tree.specs.States.{sameId}
+use Rattle.tree.specs.Slots.{sameId, nobody}
 use Rattle.tree.specs.Forest.{kidsOf, ids}
 use Rattle.tree.specs.Calls as tree
 use Rattle.tree.specs.Calls.{Outcome}
@@ -23,7 +23,6 @@ use Rattle.tree.specs.History.{History, Call, Change, Question, start, refusalO
 use Rattle.tree.specs.History.Call.{insert, change, ask}
 use Rattle.tree.specs.History.Change.{remove, setStyle, setStateTable, setPatchPool, makeField, solve, handle, nextOutput}
 use Rattle.tree.specs.History.Question.{fieldText, fieldCursor, metres, rect, live, firstChild, nextSibling, absorb}
-use Rattle.tree.specs.Slots.{nobody}
 
 -- ---- the calls, by the definitions that the contracts cite
 

@@ -15,8 +15,7 @@ use Rattle.field.specs.declared.Field.{Field}
 use Rattle.field.specs.declared.EditOp.{EditOp}
 use Rattle.field.specs.declared.EditOp.the-variants.{Backspace, Delete, Left, Right, Home, End}
 use Rattle.arithmetic.specs.Tests.{same, Maybe, nothing, just}
-use Rattle.tree.specs.Slots.{isLive}
-use Rattle.tree.specs.States.{isId}
+use Rattle.tree.specs.Slots.{isLive, isId}
 use Rattle.tree.specs.Wearing.{refreshed}
 use Rattle.tree.specs.Input.{hitTest}
 use Rattle.tree.specs.Fields.{owns, fieldOf, changeFirst}
@@ -25,10 +24,10 @@ use Rattle.tree.specs.Calls.{Outcome, gives, guarded, onField}
 use Rattle.tree.specs.declared.Ui.{Ui}
 use Rattle.tree.specs.Types.{Pointer}
 use Rattle.tree.specs.declared.Interaction.{Interaction}
-use Rattle.arena.specs.declared.UiEvent.{UiEvent}
-use Rattle.arena.specs.declared.UiEvent.the-variants.{PointerMoved, PointerPressed, PointerReleased, TextEntered, Edit}
-use Rattle.arena.specs.declared.Key.{Key}
-use Rattle.arena.specs.declared.Key.the-variants.{Char, Op}
+use Rattle.boxes.specs.declared.UiEvent.{UiEvent}
+use Rattle.boxes.specs.declared.UiEvent.the-variants.{PointerMoved, PointerPressed, PointerReleased, TextEntered, Edit}
+use Rattle.boxes.specs.declared.Key.{Key}
+use Rattle.boxes.specs.declared.Key.the-variants.{Char, Op}
 
 -- The interaction with some of it changed.
 abbrev pub pointedAt : Interaction → Pointer → Interaction

@@ -10,10 +10,10 @@ use Rattle.tree.specs.Nodes.{Info}
 use Rattle.tree.specs.History.{History, Call, Change, refusalOf, recorded, sameName, keyText}
 use Rattle.tree.specs.History.Call.{insert, change, ask}
 use Rattle.tree.specs.History.Change.{remove, setStyle, setStateTable, setPatchPool, makeField, solve, handle, nextOutput}
-use Rattle.arena.specs.declared.UiEvent.{UiEvent}
-use Rattle.arena.specs.declared.UiEvent.the-variants.{PointerMoved, PointerPressed, PointerReleased, TextEntered, Edit}
-use Rattle.arena.specs.declared.Key.{Key}
-use Rattle.arena.specs.declared.Key.the-variants.{Char, Op}
+use Rattle.boxes.specs.declared.UiEvent.{UiEvent}
+use Rattle.boxes.specs.declared.UiEvent.the-variants.{PointerMoved, PointerPressed, PointerReleased, TextEntered, Edit}
+use Rattle.boxes.specs.declared.Key.{Key}
+use Rattle.boxes.specs.declared.Key.the-variants.{Char, Op}
 
 -- The text that keys make of an empty one.
 abbrev pub typedOn : Text → List Key → Text

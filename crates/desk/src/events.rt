@@ -30,7 +30,6 @@ use tree::Ui;
 use tree::fields;
 use tree::fields::Place;
 use tree::links;
-use tree::state;
 
 // The pointer elsewhere.
 fn point(p: Parts, x: i32, y: i32) -> Parts
@@ -155,7 +154,7 @@ fn release(p: Parts, limit: u32, hit: MaybeId) -> Parts
     match pressed {
         MaybeId::Absent => press(p, MaybeId::Absent),
         MaybeId::Present(d) => {
-            if state::is_id(hit, d) {
+            if links::is_id(hit, d) {
                 return activate(p, limit, d);
             }
             press(p, MaybeId::Absent)

@@ -4,14 +4,14 @@ use mathlib.Core.Path.{_≡_}
 use mathlib.Core.Bool.{true, false, _&&_, not}
 use Rattle.field.specs.declared.NodeId.{NodeId}
 use Rattle.arena.specs.Forest.{Forest, hasId, size}
-use Rattle.arena.specs.Nodes.{Info}
+use Rattle.boxes.specs.Nodes.{Info}
 use Rattle.arena.specs.Slots.{NIL, idAt}
-use Rattle.arena.specs.Layout.{passed, sameView}
+use Rattle.boxes.specs.Layout.{passed, sameView}
 use Rattle.tree.specs.Trees.{limitOf, withPass}
 use Rattle.tree.specs.Broken.{broken}
 use Rattle.tree.specs.Calls.{gives, guarded, onLive, insertAt, insert, solve}
 use Rattle.tree.specs.declared.Ui.{Ui}
-use Rattle.arena.specs.declared.Viewport.{Viewport}
+use Rattle.boxes.specs.declared.Viewport.{Viewport}
 use Rattle.arithmetic.proofs.TestLaws.{same-no}
 use Rattle.arena.proofs.Forests.Ids.{live-just-where-a-node-has-it}
 use Rattle.tree.proofs.Relation.{Links}

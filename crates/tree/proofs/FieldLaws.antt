@@ -16,12 +16,11 @@ use Rattle.field.specs.declared.MaybeId.{MaybeId}
 use Rattle.field.specs.declared.MaybeId.the-variants.{Absent, Present}
 use Rattle.field.specs.declared.Field.{Field}
 use Rattle.arithmetic.specs.Tests.{same, all, Maybe, nothing, just}
-use Rattle.arena.specs.Slots.{Slots, at, isLive, idAt}
-use Rattle.arena.specs.States.{isId, sameId}
+use Rattle.arena.specs.Slots.{Slots, at, isLive, idAt, isId, sameId}
 use Rattle.arena.specs.Fields.{firstField, owns, fieldOf, ownerDead, reclaimed, vacant, changeFirst, claimed}
 use Rattle.arena.specs.Rules.{ownersWell}
 use Rattle.arena.specs.Forest.{Forest, nil, node, hasBoth, hasId}
-use Rattle.arena.specs.Nodes.{Info, bit, hasField, withField, changeOf}
+use Rattle.boxes.specs.Nodes.{Info, bit, hasField, withField, changeOf}
 use Rattle.tree.proofs.Relation.{AllFields, textIn}
 use Rattle.arithmetic.proofs.TestLaws.{same-yes, same-no, same-refl, δ-same, eq-cases, zero-cases, bool-cases}
 use Rattle.arena.proofs.Forests.ForestLaws.{cnt, wt}

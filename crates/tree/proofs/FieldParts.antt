@@ -11,18 +11,18 @@ use Rattle.field.specs.declared.NodeId.{NodeId}
 use Rattle.field.specs.declared.Field.{Field}
 use Rattle.field.proofs.Laws.{empty-field-keeps-the-rules}
 use Rattle.arithmetic.specs.Tests.{occ, Maybe, nothing, just}
-use Rattle.arena.specs.Slots.{Slots, isLive, nobody}
-use Rattle.arena.specs.Styles.{layoutAt}
-use Rattle.arena.specs.States.{entryOf, sameId}
+use Rattle.arena.specs.Slots.{Slots, isLive, nobody, sameId}
+use Rattle.boxes.specs.Styles.{layoutAt}
+use Rattle.boxes.specs.States.{entryOf}
 use Rattle.arena.specs.Forest.{Forest, nil, node, hasBoth, hasId, mapF}
-use Rattle.arena.specs.Nodes.{Info, withField, changeOf}
+use Rattle.boxes.specs.Nodes.{Info, withField, changeOf}
 use Rattle.arena.specs.Fields.{owns, fieldOf, firstField, vacant, reclaimed, claimed, changeFirst}
 use Rattle.tree.specs.Trees.{limitOf, statedOf}
 use Rattle.tree.specs.declared.Ui.{Ui}
 use Rattle.arithmetic.proofs.TestLaws.{bool-cases}
 use Rattle.arena.proofs.Forests.Payloads.{AllF, all-map, all-both, all-mapF, shape, shape-map, cnt-shape}
 use Rattle.arena.proofs.Forests.Ids.{live-id, live-just-where-a-node-has-it}
-use Rattle.arena.proofs.Forests.Rounds.{Worn}
+use Rattle.boxes.proofs.Styles.Rounds.{Worn}
 use Rattle.tree.proofs.Relation.{Below, BelowMaybe, Links, Naming, Styled, Ruled, AllFields, textIn, Texts}
 use Rattle.tree.proofs.ShapeParts.{naming-by-shape, ruled-by-shape}
 use Rattle.tree.proofs.FieldLaws.{one-id-is-the-other, to-have-an-id-is-to-be-named-by-it, an-edit-keeps-of-each, an-edit-keeps-the-number-of-fields, an-edit-is-of-the-nodes-field, an-edit-leaves-other-nodes-fields, an-edit-keeps-owners-apart, editIn, clearing-keeps-of-each, clearing-keeps-the-number-of-fields, clearing-keeps-owners-apart, clearing-leaves-a-live-nodes-field, a-claim-keeps-of-each, a-claim-keeps-the-number-of-fields, a-claim-keeps-owners-apart, a-nodes-new-field-is-ok, who-has-no-field-owns-nothing, a-field-made-is-an-empty-text}

@@ -11,9 +11,8 @@ use Rattle.field.specs.declared.MaybeId.the-variants.{Absent, Present}
 use Rattle.field.specs.declared.Field.{Field}
 use Rattle.arithmetic.specs.Tests.{nothing}
 use Rattle.arena.specs.Forest.{Forest}
-use Rattle.arena.specs.Nodes.{Info}
-use Rattle.arena.specs.Slots.{Slots, at, idAt}
-use Rattle.arena.specs.States.{isId}
+use Rattle.boxes.specs.Nodes.{Info}
+use Rattle.arena.specs.Slots.{Slots, at, idAt, isId}
 use Rattle.arena.specs.Fields.{fieldOf}
 use Rattle.arithmetic.proofs.TestLaws.{eq-cases, same-no}
 use Rattle.arena.proofs.Forests.ForestLaws.{cnt}

@@ -13,15 +13,15 @@ use Rattle.field.specs.declared.NodeId.{NodeId}
 use Rattle.field.specs.declared.MaybeId.{MaybeId}
 use Rattle.arithmetic.specs.Tests.{δ, occ}
 use Rattle.arena.specs.Forest.{Forest, nil, node, app, hasId, kidsOf, setKidsOf, size}
-use Rattle.arena.specs.Nodes.{Info, newInfo}
+use Rattle.boxes.specs.Nodes.{Info, newInfo}
 use Rattle.arena.specs.Slots.{NIL, Slots, at, idAt, nobody}
-use Rattle.arena.specs.Styles.{freshLayout, freshState, freshStyle, layoutAt}
+use Rattle.boxes.specs.Styles.{freshLayout, freshState, freshStyle, layoutAt}
 use Rattle.arena.specs.Fields.{fieldOf}
 use Rattle.tree.specs.Trees.{limitOf, statedOf, withNodes}
 use Rattle.tree.specs.Calls.{insertAt}
 use Rattle.tree.specs.declared.Ui.{Ui}
-use Rattle.arena.specs.declared.LayoutSlot.{LayoutSlot}
-use Rattle.arena.specs.declared.StateSlot.{StateSlot}
+use Rattle.boxes.specs.declared.LayoutSlot.{LayoutSlot}
+use Rattle.boxes.specs.declared.StateSlot.{StateSlot}
 use Rattle.arithmetic.proofs.TestLaws.{δ-refl, δ-same}
 use Rattle.arena.proofs.Forests.ForestLaws.{cnt, kids, setKids}
 use Rattle.arena.proofs.Forests.Relations.{Rel, once, below}
@@ -29,8 +29,8 @@ use Rattle.arena.proofs.Forests.Payloads.{AllF, all-map, all-app, all-kids, all
 use Rattle.arena.proofs.Forests.LinkInserts.{insert-rel, insert-size, insert-keeps-generations}
 use Rattle.arena.proofs.Forests.Generations.{insert-epochs}
 use Rattle.arena.proofs.Forests.Ids.{live-id, kids-of-a-live-id, set-kids-of-a-live-id, free-cases, full-when-none-is-free}
-use Rattle.arena.proofs.Forests.Rounds.{Worn}
-use Rattle.arena.proofs.Styles.WearLaws.{a-stored-state-is-there, other-states-stay, a-stored-layout-is-there, other-layouts-stay, a-fresh-table-has-no-patch}
+use Rattle.boxes.proofs.Styles.Rounds.{Worn}
+use Rattle.boxes.proofs.Styles.WearLaws.{a-stored-state-is-there, other-states-stay, a-stored-layout-is-there, other-layouts-stay, a-fresh-table-has-no-patch}
 use Rattle.tree.proofs.StateLaws.{a-stored-state-keeps-of-each}
 use Rattle.tree.proofs.WellLaws.{WellIn, a-bare-slot-is-well}
 use Rattle.tree.proofs.Relation.{Below, BelowMaybe, Links, Naming, Styled, Texts, textIn}

@@ -10,7 +10,7 @@ use lib.ListN.{length, length-set}
 use lib.Seq.{take-all}
 use Rattle.field.specs.declared.NodeId.{NodeId}
 use Rattle.arena.specs.Slots.{NIL, at, isLive, unlink, freeOrder, freeing}
-use Rattle.arena.specs.Styles.{freshLayout, freshState, freshStyle}
+use Rattle.boxes.specs.Styles.{freshLayout, freshState, freshStyle}
 use Rattle.tree.specs.Trees.{limitOf, withNodes}
 use Rattle.tree.specs.Calls.{insertAt, removeAt}
 use Rattle.tree.specs.declared.Ui.{Ui}

@@ -15,14 +15,15 @@ use Rattle.field.proofs.Laws.{empty-field-keeps-the-rules}
 use Rattle.arithmetic.specs.Tests.{all, fromTo, nothing}
 use Rattle.arithmetic.proofs.BoolLaws.{pick-of}
 use Rattle.arena.specs.Slots.{Slots, isLive}
-use Rattle.arena.specs.States.{Appearance, inPool, backwards}
-use Rattle.arena.specs.Layout.{passed}
+use Rattle.boxes.specs.States.{Appearance, inPool}
+use Rattle.arena.specs.Slots.{backwards}
+use Rattle.boxes.specs.Layout.{passed}
 use Rattle.arena.specs.Fields.{fieldOf, reclaimed, claimed}
 use Rattle.arena.specs.Rules.{linked, distinct, ownersWell}
-use Rattle.arena.specs.declared.Style.{Style}
-use Rattle.arena.specs.declared.StateSlot.{StateSlot}
-use Rattle.arena.specs.declared.StatePatch.{StatePatch}
-use Rattle.arena.specs.declared.Viewport.{Viewport}
+use Rattle.boxes.specs.declared.Style.{Style}
+use Rattle.boxes.specs.declared.StateSlot.{StateSlot}
+use Rattle.boxes.specs.declared.StatePatch.{StatePatch}
+use Rattle.boxes.specs.declared.Viewport.{Viewport}
 use Rattle.tree.specs.Broken.{broken}
 use Rattle.tree.specs.Trees.{limitOf, poolOf, statedOf, withStyles, withPool, withStated, withFields, withPass, withInteraction, withWaiting}
 use Rattle.tree.specs.Wearing.{appearanceOf, bitsAt, styledAt, tabledAt, refreshed}
@@ -30,9 +31,9 @@ use Rattle.tree.specs.Calls.{Outcome, guarded, onLive, pooled}
 use Rattle.tree.specs.declared.Ui.{Ui}
 use Rattle.tree.specs.declared.Interaction.{Interaction}
 use Rattle.arena.proofs.Checks.RuleLaws.{occurs-below}
-use Rattle.arena.proofs.Forests.Rounds.{Sized, Inside, a-round-keeps-lengths}
-use Rattle.arena.proofs.Layouts.PassLengths.{a-pass-keeps-the-number-of-layout-slots}
-use Rattle.arena.proofs.Styles.WearLaws.{wearStep, bareStep, wear-all-is-a-round, bare-all-is-a-round}
+use Rattle.boxes.proofs.Styles.Rounds.{Sized, Inside, a-round-keeps-lengths}
+use Rattle.boxes.proofs.Layouts.PassLengths.{a-pass-keeps-the-number-of-layout-slots}
+use Rattle.boxes.proofs.Styles.WearLaws.{wearStep, bareStep, wear-all-is-a-round, bare-all-is-a-round}
 use Rattle.tree.proofs.StateLaws.{EachState, a-changed-slot-keeps-of-each, a-round-keeps-of-each}
 use Rattle.tree.proofs.WellLaws.{StatesWell, states-well-together, a-styled-tree-is-well, a-tabled-tree-is-well, a-tree-with-a-new-pool-is-well, a-refreshed-tree-is-well}
 use Rattle.tree.proofs.RefreshLaws.{three, distinct-slots-are-below, the-slots-of-a-refresh-are-below-the-limit, what-a-refresh-states}

@@ -28,10 +28,10 @@ pub mod PassBoxes
 -- what arena proves, under the tree's name
 pub use Rattle.arena.proofs.Forests.ForestLaws
 pub use Rattle.arena.proofs.Forests.Payloads
-pub use Rattle.arena.proofs.Forests.Rounds
+pub use Rattle.boxes.proofs.Styles.Rounds
 pub use Rattle.arena.proofs.Forests.Ids
 pub use Rattle.arena.proofs.Forests.Starts
-pub use Rattle.arena.proofs.Layouts.PassLaws
-pub use Rattle.arena.proofs.Hits.HitLaws
+pub use Rattle.boxes.proofs.Layouts.PassLaws
+pub use Rattle.boxes.proofs.Hits.HitLaws
 pub use Rattle.arena.proofs.Owners.Places
-pub use Rattle.arena.proofs.Styles.GeometryLaws
+pub use Rattle.boxes.proofs.Styles.GeometryLaws

@@ -8,7 +8,7 @@ use Rattle.field.specs.Fields.{fieldOk}
 use Rattle.field.specs.declared.Field.{Field}
 use Rattle.arithmetic.specs.Tests.{all}
 use Rattle.arena.specs.Forest.{Forest}
-use Rattle.arena.specs.Nodes.{Info}
+use Rattle.boxes.specs.Nodes.{Info}
 use Rattle.arena.specs.Slots.{Slots}
 use Rattle.tree.specs.Broken.{broken}
 use Rattle.tree.specs.Trees.{limitOf}

@@ -7,18 +7,18 @@ use Prim.Native.Nat.{ℕ, zero, suc, _<_}
 use native.Mathlib.Omega.{arith}
 use lib.ListN.{length, getD}
 use Rattle.arena.specs.Forest.{Forest, mapF}
-use Rattle.arena.specs.Nodes.{Info, newInfo, dressed, placeF}
+use Rattle.boxes.specs.Nodes.{Info, newInfo, dressed, placeF}
 use Rattle.arena.specs.Slots.{Slots, at}
-use Rattle.arena.specs.Styles.{freshStyle, noLayout, layoutAt}
-use Rattle.arena.specs.Layout.{viewRect, passed}
-use Rattle.arena.specs.declared.Style.{Style}
-use Rattle.arena.specs.declared.LayoutSlot.{LayoutSlot}
-use Rattle.arena.specs.declared.Viewport.{Viewport}
+use Rattle.boxes.specs.Styles.{freshStyle, noLayout, layoutAt}
+use Rattle.boxes.specs.Layout.{viewRect, passed}
+use Rattle.boxes.specs.declared.Style.{Style}
+use Rattle.boxes.specs.declared.LayoutSlot.{LayoutSlot}
+use Rattle.boxes.specs.declared.Viewport.{Viewport}
 use Rattle.arena.proofs.Forests.ForestLaws.{cnt}
 use Rattle.arena.proofs.Forests.Relations.{Rel}
 use Rattle.arena.proofs.Forests.Payloads.{AllF, all-map, all-both, all-mapF, all-at, shape, shape-map, cnt-shape, rel-shape}
 use Rattle.arena.proofs.Forests.Ids.{nodes-have-their-slots-generation}
-use Rattle.arena.proofs.Layouts.PassLaws.{a-pass-places-every-node, placing-keeps-the-shape}
+use Rattle.boxes.proofs.Layouts.PassLaws.{a-pass-places-every-node, placing-keeps-the-shape}
 
 -- lists of which each element has the style of the other's
 pub equal-styles-slot-by-slot : (l l′ : List LayoutSlot) → map (λ (x : LayoutSlot). x .style) l′ ≡ map (λ (x : LayoutSlot). x .style) l → (j : ℕ) → layoutAt l′ j .style ≡ layoutAt l j .style

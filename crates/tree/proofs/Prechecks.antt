@@ -20,7 +20,7 @@ use Rattle.tree.specs.Calls.{Outcome, refuses, guarded, onLive}
 use Rattle.tree.specs.Answers.{precheck}
 use Rattle.tree.specs.declared.Ui.{Ui}
 use Rattle.arithmetic.proofs.TestLaws.{bool-cases, eq-cases}
-use Rattle.arena.proofs.Styles.GeometryLaws.{no-more}
+use Rattle.arithmetic.proofs.BoolLaws.{no-more}
 use Rattle.tree.proofs.RuleParts.{Rules, a-tree-not-broken-keeps-each-rule}
 
 word-is : (v w : Refusal) → Refused v ≡ Refused w → v ≡ w

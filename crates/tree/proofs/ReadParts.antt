@@ -19,10 +19,10 @@ use Rattle.field.specs.declared.Field.{Field}
 use Rattle.field.proofs.Laws.{held-is-the-texts, length-is-the-texts, caret-is-the-texts}
 use Rattle.arithmetic.specs.Tests.{Maybe, nothing, just}
 use Rattle.arena.specs.Forest.{Forest, nil, node, hasBoth, hasId, kidsOf, find, ids, firstId, nextId, size}
-use Rattle.arena.specs.Nodes.{Info}
-use Rattle.arena.specs.History.{ofText, ofNode, padded}
+use Rattle.boxes.specs.Nodes.{Info}
+use Rattle.boxes.specs.History.{ofText, ofNode, padded}
 use Rattle.arena.specs.Slots.{NIL, Slots, at}
-use Rattle.arena.specs.Styles.{noRect, layoutAt}
+use Rattle.boxes.specs.Styles.{noRect, layoutAt}
 use Rattle.arena.specs.Fields.{firstField, owns, fieldOf, Shown, noText}
 use Rattle.tree.specs.Broken.{broken}
 use Rattle.tree.specs.Calls.{Outcome, shown, gives, guarded, onLive, ofField, onField, fieldText, fieldCursor, rect, live, firstChild, nextSibling}
@@ -34,7 +34,7 @@ use Rattle.arena.proofs.Forests.Segments.{SegR}
 use Rattle.arena.proofs.Forests.Orders.{rel-size}
 use Rattle.arena.proofs.Forests.Ids.{live-just-where-a-node-has-it, live-id, kids-of-a-live-id, slots-id-is-live, find-nothing, find-known}
 use Rattle.arena.proofs.Forests.ChildLinks.{first-link, no-node-is-none, children-segment, first-child-of-a-live-id, next-sibling-of-a-live-id}
-use Rattle.arena.proofs.Layouts.PassLaws.{Boxed}
+use Rattle.boxes.proofs.Layouts.PassLaws.{Boxed}
 use Rattle.tree.proofs.Relation.{Ruled, AllFields, textIn, Links, Texts}
 
 -- the children of a node in order, by the calls for the first child and the next sibling

@@ -14,14 +14,15 @@ use Rattle.field.specs.declared.NodeId.{NodeId}
 use Rattle.field.specs.declared.MaybeId.{MaybeId}
 use Rattle.field.specs.declared.MaybeId.the-variants.{Absent, Present}
 use Rattle.arithmetic.specs.Tests.{same, δ, occ}
-use Rattle.arena.specs.Slots.{at, isLive, idAt}
-use Rattle.arena.specs.Styles.{freshState, stateAt}
+use Rattle.arena.specs.Slots.{at, isLive, idAt, isId}
+use Rattle.boxes.specs.Styles.{freshState, stateAt}
 use Rattle.tree.specs.Trees.{limitOf, poolOf, statedOf, withStyles, withStated}
 use Rattle.tree.specs.Wearing.{appearanceOf, bitsAt, refreshed}
-use Rattle.arena.specs.States.{isId, bitsOf, liveSlot, bearing, backwards}
+use Rattle.boxes.specs.States.{bitsOf, liveSlot, bearing}
+use Rattle.arena.specs.Slots.{backwards}
 use Rattle.arena.specs.Rules.{distinct}
 use Rattle.arena.specs.Forest.{Forest, mapF, anyF}
-use Rattle.arena.specs.Nodes.{Info, wears, swaps}
+use Rattle.boxes.specs.Nodes.{Info, wears, swaps}
 use Rattle.tree.specs.declared.Ui.{Ui}
 use Rattle.arithmetic.proofs.TestLaws.{same-yes, same-no, δ-refl, δ-same, eq-cases, zero-cases, bool-cases}
 use Rattle.arena.proofs.Forests.ForestLaws.{cnt}
@@ -29,8 +30,8 @@ use Rattle.arena.proofs.Forests.Relations.{Rel}
 use Rattle.arena.proofs.Forests.Payloads.{AllF, all-map, all-mapF}
 use Rattle.arena.proofs.Forests.FreeOrders.{occ-append}
 use Rattle.arena.proofs.Forests.Ids.{live-just-where-a-node-has-it, slots-id-is-live}
-use Rattle.arena.proofs.Forests.Rounds.{Worn, Sized}
-use Rattle.arena.proofs.Styles.WearLaws.{Restyled, TablesWorn, all-slots-wearing-is-every-node-wearing}
+use Rattle.boxes.proofs.Styles.Rounds.{Worn, Sized}
+use Rattle.boxes.proofs.Styles.WearLaws.{Restyled, TablesWorn, all-slots-wearing-is-every-node-wearing}
 
 -- ---- lists of slots without repetition
 

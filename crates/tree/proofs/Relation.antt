@@ -12,10 +12,10 @@ use Rattle.field.specs.declared.MaybeId.the-variants.{Absent, Present}
 use Rattle.field.specs.declared.Field.{Field}
 use Rattle.arithmetic.specs.Tests.{occ, Maybe, nothing, just}
 use Rattle.arena.specs.Slots.{Slots, at, nobody}
-use Rattle.arena.specs.Styles.{freshState, stateAt}
+use Rattle.boxes.specs.Styles.{freshState, stateAt}
 use Rattle.tree.specs.Wearing.{appearanceOf}
 use Rattle.arena.specs.Forest.{Forest, size}
-use Rattle.arena.specs.Nodes.{Info}
+use Rattle.boxes.specs.Nodes.{Info}
 use Rattle.arena.specs.Fields.{fieldOf}
 use Rattle.arena.specs.Rules.{distinct, ownersWell}
 use Rattle.tree.specs.Trees.{limitOf, statedOf}
@@ -23,9 +23,9 @@ use Rattle.tree.specs.declared.Ui.{Ui}
 use Rattle.arena.proofs.Forests.ForestLaws.{cnt}
 use Rattle.arena.proofs.Forests.Relations.{Rel}
 use Rattle.arena.proofs.Forests.Payloads.{AllF}
-use Rattle.arena.proofs.Forests.Rounds.{Worn, Sized}
-use Rattle.arena.proofs.Styles.WearLaws.{TablesWorn}
-use Rattle.arena.proofs.Layouts.PassLaws.{Boxed}
+use Rattle.boxes.proofs.Styles.Rounds.{Worn, Sized}
+use Rattle.boxes.proofs.Styles.WearLaws.{TablesWorn}
+use Rattle.boxes.proofs.Layouts.PassLaws.{Boxed}
 use Rattle.tree.proofs.WellLaws.{StatesWell}
 
 -- an id that was given: its generation lies below the next one that its slot will give

@@ -11,14 +11,14 @@ use Rattle.field.specs.declared.NodeId.{NodeId}
 use Rattle.field.specs.declared.MaybeId.{MaybeId}
 use Rattle.arithmetic.specs.Tests.{occ}
 use Rattle.arena.specs.Forest.{Forest, hasId, cutOf}
-use Rattle.arena.specs.Nodes.{Info}
+use Rattle.boxes.specs.Nodes.{Info}
 use Rattle.arena.specs.Slots.{at, unlink, freeOrder, freeing, nobody}
-use Rattle.arena.specs.Styles.{freshState, freshStyle, stateAt}
+use Rattle.boxes.specs.Styles.{freshState, freshStyle, stateAt}
 use Rattle.tree.specs.Trees.{limitOf, withNodes}
 use Rattle.tree.specs.Calls.{removeAt}
-use Rattle.arena.specs.States.{resetStates}
+use Rattle.boxes.specs.States.{resetStates}
 use Rattle.tree.specs.declared.Ui.{Ui}
-use Rattle.arena.specs.declared.StateSlot.{StateSlot}
+use Rattle.boxes.specs.declared.StateSlot.{StateSlot}
 use Rattle.arithmetic.proofs.TestLaws.{δ-same, eq-cases, zero-cases}
 use Rattle.arena.proofs.Forests.ForestLaws.{cnt, cut}
 use Rattle.arena.proofs.Forests.Relations.{once}
@@ -27,8 +27,8 @@ use Rattle.arena.proofs.Forests.FreeOrders.{pushed}
 use Rattle.arena.proofs.Forests.LinkRemovals.{Removed, remove-rel}
 use Rattle.arena.proofs.Forests.Generations.{remove-keeps-epochs, remove-generation-bound}
 use Rattle.arena.proofs.Forests.Ids.{live-id, cut-of-a-live-id}
-use Rattle.arena.proofs.Forests.Rounds.{Worn}
-use Rattle.arena.proofs.Styles.WearLaws.{a-stored-state-is-there, other-states-stay}
+use Rattle.boxes.proofs.Styles.Rounds.{Worn}
+use Rattle.boxes.proofs.Styles.WearLaws.{a-stored-state-is-there, other-states-stay}
 use Rattle.tree.proofs.StateLaws.{EachState}
 use Rattle.tree.proofs.WellLaws.{WellIn, a-bare-slot-is-well}
 use Rattle.tree.proofs.Relation.{Below, BelowMaybe, Links, Naming, Styled, Texts}

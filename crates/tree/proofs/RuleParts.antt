@@ -7,11 +7,12 @@ use lib.Dec.{leb}
 use lib.ListN.{take}
 use Rattle.field.specs.Fields.{fieldOk}
 use Rattle.arithmetic.specs.Tests.{all}
-use Rattle.arena.specs.Rules.{linked, stateWell, distinct, ownersWell}
+use Rattle.arena.specs.Rules.{linked, distinct, ownersWell}
+use Rattle.boxes.specs.States.{stateWell}
 use Rattle.tree.specs.Broken.{broken, linksWell}
 use Rattle.tree.specs.Trees.{limitOf, statedOf}
 use Rattle.tree.specs.declared.Ui.{Ui}
-use Rattle.arena.proofs.Styles.GeometryLaws.{no-more}
+use Rattle.arithmetic.proofs.BoolLaws.{no-more}
 
 pub record Rules (u : Ui) : Type 0 where
   pub some-nodes : 1 ≤ limitOf u

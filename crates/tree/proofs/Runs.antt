@@ -4,7 +4,7 @@ use Prim.Native.Nat.{ℕ}
 use mathlib.Core.Path.{_≡_, refl}
 use lib.IntN.{pos}
 use Rattle.field.specs.declared.NodeId.{NodeId}
-use Rattle.arena.specs.declared.Viewport.{Viewport}
+use Rattle.boxes.specs.declared.Viewport.{Viewport}
 use Rattle.arithmetic.specs.Scalar.{stop, addSat, subSat, gapTimes, maxOf, unsignedOf}
 use Rattle.arithmetic.specs.Tests.{within, same, δ}
 use Rattle.text.specs.Utf8.{isScalar, allScalars, encoded, encodedAll, encodedAs}
@@ -13,11 +13,11 @@ use Rattle.text.specs.Steps.{backOf, front, stepBack, stepForward}
 use Rattle.field.specs.Fields.{emptyField, inRange, fieldOk, moved, cutOut, putIn, stepBackOf, stepForwardOf, editedIn, edited, inserted, editAnswer, insertAnswer, shownOf, textOf, withText}
 use Rattle.tree.specs.Trees.{withNodes, withStyles, withPool, withStated, withFields, withPass, withInteraction, withWaiting}
 use Rattle.arena.specs.Slots.{at, put, change, isLive, chain, kidsAt, order, linkAfter, linkLast, unlinkFrom, unlink, freeOrder, freeing, nextGeneration, freed, newSlot, newSlots}
-use Rattle.arena.specs.Styles.{layoutAt, stateAt}
-use Rattle.arena.specs.States.{entryOf, patchStyle, touches, inPool, wear, bitsOf, wearAll, bearing, bared, bareAll, resetStates}
+use Rattle.boxes.specs.Styles.{layoutAt, stateAt}
+use Rattle.boxes.specs.States.{entryOf, patchStyle, touches, inPool, wear, bitsOf, wearAll, bearing, bared, bareAll, resetStates, stateWell}
 use Rattle.tree.specs.Wearing.{bitsAt, refreshed, styledAt, tabledAt}
 use Rattle.arena.specs.Fields.{fieldOf, reclaimed, claimed}
-use Rattle.arena.specs.Rules.{kidsWell, nodeWell, freeWell, eachOnce, linked, stateWell, distinct, ownersWell}
+use Rattle.arena.specs.Rules.{kidsWell, nodeWell, freeWell, eachOnce, linked, distinct, ownersWell}
 use Rattle.tree.specs.Broken.{linksWell, broken}
 use Rattle.tree.specs.Calls.{guarded, onLive, fresh, newTree, insertAt, insert, removeAt, remove, setStyle, setStateTable, pooled, setPatchPool, makeField, onField, fieldText, fieldCursor, solve, rect, live, firstChild, nextSibling}
 

@@ -10,7 +10,7 @@ use Rattle.field.specs.declared.MaybeId.the-variants.{Absent, Present}
 use Rattle.field.specs.declared.Field.{Field}
 use Rattle.arena.specs.Slots.{Slots, nobody}
 use Rattle.arena.specs.Forest.{Forest, size}
-use Rattle.arena.specs.Nodes.{Info}
+use Rattle.boxes.specs.Nodes.{Info}
 use Rattle.arena.specs.Fields.{fieldOf}
 use Rattle.tree.specs.Trees.{limitOf}
 use Rattle.tree.specs.declared.Ui.{Ui}

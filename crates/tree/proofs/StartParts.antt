@@ -9,16 +9,16 @@ use Rattle.field.specs.declared.NodeId.{NodeId}
 use Rattle.field.proofs.Laws.{empty-field-keeps-the-rules}
 use Rattle.arithmetic.specs.Tests.{fromTo}
 use Rattle.arena.specs.Forest.{Forest, nil, node}
-use Rattle.arena.specs.Nodes.{Info, newInfo}
+use Rattle.boxes.specs.Nodes.{Info, newInfo}
 use Rattle.arena.specs.Slots.{Slots, at, nobody}
-use Rattle.arena.specs.Styles.{freshLayout, freshState, freshStyle, noState, layoutAt, stateAt}
+use Rattle.boxes.specs.Styles.{freshLayout, freshState, freshStyle, noState, layoutAt, stateAt}
 use Rattle.arena.specs.Fields.{fieldOf}
 use Rattle.arena.specs.Rules.{distinct, ownersWell}
 use Rattle.tree.specs.Calls.{fresh}
 use Rattle.arithmetic.proofs.TestLaws.{δ-refl}
 use Rattle.arena.proofs.Forests.ForestLaws.{cnt}
 use Rattle.arena.proofs.Forests.Starts.{start-rel, start-generations, start-root-generation}
-use Rattle.arena.proofs.Styles.WearLaws.{a-fresh-table-has-no-patch}
+use Rattle.boxes.proofs.Styles.WearLaws.{a-fresh-table-has-no-patch}
 use Rattle.tree.proofs.WellLaws.{a-bare-slot-is-well}
 use Rattle.tree.proofs.Relation.{Ruled, AllFields, Links, Naming, Styled, Pool, Texts, Queue}
 

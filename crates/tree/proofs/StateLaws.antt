@@ -5,12 +5,12 @@ use Prim.Native.Nat.{ℕ, _<_}
 use lib.ListN.{length, set}
 use mathlib.Core.Bool.{Bool}
 use Rattle.arithmetic.specs.Tests.{occ}
-use Rattle.arena.specs.Styles.{stateAt}
-use Rattle.arena.specs.States.{Appearance}
-use Rattle.arena.specs.declared.StateSlot.{StateSlot}
+use Rattle.boxes.specs.Styles.{stateAt}
+use Rattle.boxes.specs.States.{Appearance}
+use Rattle.boxes.specs.declared.StateSlot.{StateSlot}
 use Rattle.arithmetic.proofs.TestLaws.{eq-cases, zero-cases}
-use Rattle.arena.proofs.Forests.Rounds.{Look, lookAt, Sized, Stepped, Stepping, Inside, visit, a-slot-not-visited-stays, a-slot-visited-is-changed}
-use Rattle.arena.proofs.Styles.WearLaws.{a-stored-state-is-there, other-states-stay}
+use Rattle.boxes.proofs.Styles.Rounds.{Look, lookAt, Sized, Stepped, Stepping, Inside, visit, a-slot-not-visited-stays, a-slot-visited-is-changed}
+use Rattle.boxes.proofs.Styles.WearLaws.{a-stored-state-is-there, other-states-stay}
 
 abbrev pub EachState : (StateSlot → Type 0) → ℕ → List StateSlot → Type 0
 EachState P n l = (j : ℕ) → j < n → P (stateAt l j)

@@ -9,24 +9,24 @@ use lib.ListN.{set}
 use Rattle.field.specs.declared.NodeId.{NodeId}
 use Rattle.arithmetic.specs.Tests.{same}
 use Rattle.arena.specs.Slots.{Slots, at}
-use Rattle.arena.specs.Styles.{noPatch, freshState, layoutAt, stateAt}
+use Rattle.boxes.specs.Styles.{noPatch, freshState, layoutAt, stateAt}
 use Rattle.tree.specs.Trees.{limitOf, poolOf, statedOf, withStyles, withPool}
-use Rattle.arena.specs.States.{Appearance, entryOf, withStyle, based, tabled}
+use Rattle.boxes.specs.States.{Appearance, entryOf, withStyle, based, tabled}
 use Rattle.tree.specs.Wearing.{appearanceOf, styledAt, tabledAt}
 use Rattle.arena.specs.Forest.{Forest, nil, node, mapF, anyF, hasBoth, hasId}
-use Rattle.arena.specs.Nodes.{Info, changeOf, wears, swaps, restyled, withTable, bare}
+use Rattle.boxes.specs.Nodes.{Info, changeOf, wears, swaps, restyled, withTable, bare}
 use Rattle.tree.specs.Calls.{pooled}
 use Rattle.tree.specs.declared.Ui.{Ui}
-use Rattle.arena.specs.declared.Style.{Style}
-use Rattle.arena.specs.declared.StateSlot.{StateSlot}
-use Rattle.arena.specs.declared.StatePatch.{StatePatch}
+use Rattle.boxes.specs.declared.Style.{Style}
+use Rattle.boxes.specs.declared.StateSlot.{StateSlot}
+use Rattle.boxes.specs.declared.StatePatch.{StatePatch}
 use Rattle.arithmetic.proofs.TestLaws.{same-refl, eq-cases, bool-cases}
 use Rattle.arena.proofs.Forests.ForestLaws.{cnt}
 use Rattle.arena.proofs.Forests.Relations.{Rel, below}
 use Rattle.arena.proofs.Forests.Payloads.{AllF, all-map, all-both, all-mapF, all-at, any-cases}
 use Rattle.arena.proofs.Forests.Ids.{id-by-index, live-id, nodes-have-their-slots-generation}
-use Rattle.arena.proofs.Forests.Rounds.{Look, lookAt, lookOf, Worn, worn-is-one-look, one-look-is-worn, Sized, Stepped, or-true, or-false}
-use Rattle.arena.proofs.Styles.WearLaws.{Restyled, TablesWorn, wearLook, wearMoves, to-wear-changes-one-slot, a-state-is-stored, a-state-and-a-style-are-stored, all-slots-bare-is-every-node-bare}
+use Rattle.boxes.proofs.Styles.Rounds.{Look, lookAt, lookOf, Worn, worn-is-one-look, one-look-is-worn, Sized, Stepped, or-true, or-false}
+use Rattle.boxes.proofs.Styles.WearLaws.{Restyled, TablesWorn, wearLook, wearMoves, to-wear-changes-one-slot, a-state-is-stored, a-state-and-a-style-are-stored, all-slots-bare-is-every-node-bare}
 
 -- ---- one node changed
 

@@ -8,26 +8,26 @@ use lib.ListN.{length}
 use Rattle.field.specs.declared.NodeId.{NodeId}
 use Rattle.field.specs.declared.MaybeId.{MaybeId}
 use Rattle.arithmetic.specs.Tests.{same, occ, fromTo, all}
-use Rattle.arena.specs.Styles.{noPatch, layoutAt}
-use Rattle.arena.specs.States.{Appearance, entryOf, inPool, bareAll}
+use Rattle.boxes.specs.Styles.{noPatch, layoutAt}
+use Rattle.boxes.specs.States.{Appearance, entryOf, inPool, bareAll}
 use Rattle.tree.specs.Wearing.{appearanceOf, bitsAt, refreshed, styledAt, tabledAt}
-use Rattle.arena.specs.Layout.{passed, viewRect}
+use Rattle.boxes.specs.Layout.{passed, viewRect}
 use Rattle.arena.specs.Forest.{Forest, nil, node, hasBoth, hasId, mapF, anyF}
-use Rattle.arena.specs.Nodes.{Info, changeOf, wears, swaps, restyled, withTable, bare, placeF}
+use Rattle.boxes.specs.Nodes.{Info, changeOf, wears, swaps, restyled, withTable, bare, placeF}
 use Rattle.arena.specs.Rules.{distinct}
 use Rattle.tree.specs.Trees.{limitOf, poolOf, statedOf, withStyles, withPool, withStated, withPass}
 use Rattle.tree.specs.Calls.{pooled}
 use Rattle.tree.specs.declared.Ui.{Ui}
-use Rattle.arena.specs.declared.Style.{Style}
-use Rattle.arena.specs.declared.StatePatch.{StatePatch}
-use Rattle.arena.specs.declared.Viewport.{Viewport}
+use Rattle.boxes.specs.declared.Style.{Style}
+use Rattle.boxes.specs.declared.StatePatch.{StatePatch}
+use Rattle.boxes.specs.declared.Viewport.{Viewport}
 use Rattle.arena.proofs.Forests.ForestLaws.{cnt}
 use Rattle.arena.proofs.Forests.Relations.{below}
 use Rattle.arena.proofs.Forests.Payloads.{AllF, all-map, all-mapF, shape-map, cnt-shape}
 use Rattle.arena.proofs.Forests.Ids.{live-id}
-use Rattle.arena.proofs.Forests.Rounds.{Worn}
-use Rattle.arena.proofs.Styles.WearLaws.{Restyled, TablesWorn, nodes-wear-what-their-tables-have, all-slots-bare-is-every-node-bare, bare-nodes-wear-what-their-tables-have}
-use Rattle.arena.proofs.Layouts.PassLaws.{PassOver, a-pass-places-every-node, placing-keeps-what-boxes-leave-alone, placing-keeps-the-shape}
+use Rattle.boxes.proofs.Styles.Rounds.{Worn}
+use Rattle.boxes.proofs.Styles.WearLaws.{Restyled, TablesWorn, nodes-wear-what-their-tables-have, all-slots-bare-is-every-node-bare, bare-nodes-wear-what-their-tables-have}
+use Rattle.boxes.proofs.Layouts.PassLaws.{PassOver, a-pass-places-every-node, placing-keeps-what-boxes-leave-alone, placing-keeps-the-shape}
 use Rattle.tree.proofs.RefreshLaws.{Refresh, a-refresh-is-every-node-wearing-its-bits, distinct-slots-are-below}
 use Rattle.tree.proofs.StylingLaws.{a-styled-slot-is-a-restyled-node, a-tabled-slot-is-a-node-that-wears-a-table, a-restyled-node-wears-what-its-table-has, a-tabled-node-wears-what-its-table-has, changing-one-node-keeps}
 use Rattle.tree.proofs.WellLaws.{StatesWell, a-refreshed-tree-is-well, bare-slots-are-well, a-styled-tree-is-well, a-tabled-tree-is-well}

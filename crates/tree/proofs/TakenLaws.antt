@@ -24,7 +24,7 @@ use Rattle.tree.specs.declared.answers.FieldPlace.the-variants as found
 use Rattle.tree.specs.declared.Ui.{Ui}
 use Rattle.arena.proofs.Owners.Places.{the-place-has-the-field}
 use Rattle.arithmetic.proofs.TestLaws.{bool-cases}
-use Rattle.arena.proofs.Styles.GeometryLaws.{no-more}
+use Rattle.arithmetic.proofs.BoolLaws.{no-more}
 use Rattle.tree.proofs.Prechecks.{refused-at-once, not-refused}
 
 pub none-free : (l : List Field) → all (λ (f : Field). not (vacant f)) l ≡ true → firstField vacant l ≡ nothing

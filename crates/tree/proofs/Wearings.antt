@@ -8,18 +8,19 @@ use lib.ListN.{length, getD, set, take, List·getD-eq-default}
 use lib.Seq.{set-out, take-suc, take-all}
 use Rattle.field.specs.declared.MaybeId.{MaybeId}
 use Rattle.arithmetic.specs.Tests.{same, fromTo}
-use Rattle.arena.specs.Slots.{idAt}
-use Rattle.arena.specs.Styles.{noState, noPatch, layoutAt, stateAt, bareState}
-use Rattle.arena.specs.States.{liveSlot, bitsBy, Appearance, wearing, withStyle, wear, patchStyle, entryOf, touches, bared, bareAll, based, tabled, wearAll, bitsOf, isId, backwards, bearing}
+use Rattle.arena.specs.Slots.{idAt, isId}
+use Rattle.boxes.specs.Styles.{noState, noPatch, layoutAt, stateAt, bareState}
+use Rattle.boxes.specs.States.{liveSlot, bitsBy, Appearance, wearing, withStyle, wear, patchStyle, entryOf, touches, bared, bareAll, based, tabled, wearAll, bitsOf, bearing}
+use Rattle.arena.specs.Slots.{backwards}
 use Rattle.tree.specs.Wearing.{appearanceOf, styledAt, tabledAt, bitsAt, withAppearance, refreshed}
 use Rattle.tree.specs.Trees.{limitOf, poolOf, withStyles, statedOf, withStated}
 use Rattle.tree.specs.declared.Ui.{Ui}
-use Rattle.arena.specs.declared.Style.{Style}
-use Rattle.arena.specs.declared.StateSlot.{StateSlot}
-use Rattle.arena.specs.declared.LayoutSlot.{LayoutSlot}
-use Rattle.arena.specs.Support.Wearing.{keptAs}
-use Rattle.arena.specs.declared.wearing.Kept.{Kept}
-use Rattle.arena.proofs.Styles.Wearings.{wear-past, bared-past, worn-behind, all-lengths}
+use Rattle.boxes.specs.declared.Style.{Style}
+use Rattle.boxes.specs.declared.StateSlot.{StateSlot}
+use Rattle.boxes.specs.declared.LayoutSlot.{LayoutSlot}
+use Rattle.boxes.specs.Support.Wearing.{keptAs}
+use Rattle.boxes.specs.declared.wearing.Kept.{Kept}
+use Rattle.boxes.proofs.Styles.Wearings.{wear-past, bared-past, worn-behind, all-lengths}
 
 -- one slot made bare, as the code stores it
 module _ (v : Ui) (i : ℕ) where

@@ -11,21 +11,21 @@ use lib.ListN.{length, getD, take, replicate}
 use Rattle.arithmetic.proofs.BoolLaws.{and-left, and-right}
 use Rattle.field.specs.declared.MaybeId.{MaybeId}
 use Rattle.arithmetic.specs.Tests.{occ, all, fromTo}
-use Rattle.arena.specs.Styles.{noPatch, noState, freshTable, bareState, stateAt}
+use Rattle.boxes.specs.Styles.{noPatch, noState, freshTable, bareState, stateAt}
 use Rattle.tree.specs.Trees.{limitOf, poolOf, statedOf, withStyles, withStated, withPool}
-use Rattle.arena.specs.States.{Appearance, entryOf, inPool, wearing, wearAll, bitsOf, based, tabled, bareAll, backwards}
+use Rattle.boxes.specs.States.{Appearance, entryOf, inPool, wearing, wearAll, bitsOf, based, tabled, bareAll, stateWell}
+use Rattle.arena.specs.Slots.{backwards}
 use Rattle.tree.specs.Wearing.{appearanceOf, bitsAt, styledAt, tabledAt, refreshed}
-use Rattle.arena.specs.Rules.{stateWell}
 use Rattle.tree.specs.Calls.{pooled}
 use Rattle.tree.specs.declared.Ui.{Ui}
-use Rattle.arena.specs.declared.Style.{Style}
-use Rattle.arena.specs.declared.StateSlot.{StateSlot}
-use Rattle.arena.specs.declared.StatePatch.{StatePatch}
+use Rattle.boxes.specs.declared.Style.{Style}
+use Rattle.boxes.specs.declared.StateSlot.{StateSlot}
+use Rattle.boxes.specs.declared.StatePatch.{StatePatch}
 use Rattle.arithmetic.proofs.TestLaws.{same-refl}
 use Rattle.arena.proofs.Forests.Starts.{occ-within}
 use Rattle.arena.proofs.Checks.RuleLaws.{both-true, occurs-below}
-use Rattle.arena.proofs.Forests.Rounds.{Look, Sized, Inside, a-slot-visited-is-changed}
-use Rattle.arena.proofs.Styles.WearLaws.{wearStep, bareStep, wear-all-is-a-round, bare-all-is-a-round}
+use Rattle.boxes.proofs.Styles.Rounds.{Look, Sized, Inside, a-slot-visited-is-changed}
+use Rattle.boxes.proofs.Styles.WearLaws.{wearStep, bareStep, wear-all-is-a-round, bare-all-is-a-round}
 use Rattle.tree.proofs.RefreshLaws.{three, the-slots-of-a-refresh-are-below-the-limit}
 use Rattle.tree.proofs.StylingLaws.{style-step, table-step}
 use Rattle.tree.proofs.StateLaws.{EachState, a-changed-slot-keeps-of-each, a-round-keeps-of-each}

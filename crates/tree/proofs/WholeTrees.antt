@@ -24,7 +24,7 @@ use Rattle.arena.proofs.Forests.LinkRemovals.{Removed, remove-rel}
 use Rattle.arena.proofs.Forests.Ids.{live-just-where-a-node-has-it, live-id, cut-of-a-live-id}
 use Rattle.arena.proofs.Checks.RuleLaws.{free-chain-of-the-tree, aliveness-of-a-slot}
 use Rattle.arena.proofs.Checks.LinkedForests.{HoldsForest, linked-slots-hold-a-forest}
-use Rattle.arena.proofs.Hits.HitEnds.{a-hit-test-goes-all-the-way-down}
+use Rattle.boxes.proofs.Hits.HitEnds.{a-hit-test-goes-all-the-way-down}
 use Rattle.tree.proofs.Prechecks.{few-slots, well-linked}
 
 -- slots that hold a forest spell it

@@ -12,10 +12,10 @@ use Rattle.field.specs.declared.MaybeId.the-variants.{Absent, Present}
 use Rattle.arena.specs.Slots.{isLive, nobody}
 use Rattle.tree.specs.Broken.{broken}
 use Rattle.tree.specs.Trees.{limitOf}
-use Rattle.arena.specs.Styles.{noRect}
+use Rattle.boxes.specs.Styles.{noRect}
 use Rattle.tree.specs.declared.Ui.{Ui}
 use Rattle.tree.specs.Calls.{Outcome}
-use Rattle.arena.specs.declared.Rect.{Rect}
+use Rattle.boxes.specs.declared.Rect.{Rect}
 use Rattle.arena.specs.Support.Places.{placeOf}
 use Rattle.arena.specs.declared.fields.Place.{Place}
 use Rattle.arena.specs.declared.fields.Place.the-variants.{Nowhere, At}

@@ -4,7 +4,8 @@ use lib.Dec.{leb}
 use lib.ListN.{take}
 use Rattle.field.specs.Fields.{fieldOk}
 use Rattle.arithmetic.specs.Tests.{all}
-use Rattle.arena.specs.Rules.{linked, stateWell, distinct, ownersWell}
+use Rattle.arena.specs.Rules.{linked, distinct, ownersWell}
+use Rattle.boxes.specs.States.{stateWell}
 use Rattle.tree.specs.Trees.{limitOf, statedOf}
 use Rattle.tree.specs.declared.Ui.{Ui}
 

@@ -16,19 +16,19 @@ use Rattle.field.specs.declared.MaybeId.the-variants.{Absent, Present}
 use Rattle.field.specs.declared.Field.{Field}
 use Rattle.arithmetic.specs.Tests.{same, all, fromTo, finalOr, Maybe, nothing, just}
 use Rattle.arena.specs.Slots.{NIL, at, put, used, isLive, idAt, nobody, linkLast, unlink, freeing, freed, newSlots}
-use Rattle.arena.specs.Styles.{noRect, freshStyle, freshLayout, freshState, layoutAt}
-use Rattle.arena.specs.States.{inPool, bareAll, resetStates}
+use Rattle.boxes.specs.Styles.{noRect, freshStyle, freshLayout, freshState, layoutAt}
+use Rattle.boxes.specs.States.{inPool, bareAll, resetStates}
 use Rattle.tree.specs.Wearing.{appearanceOf, styledAt, tabledAt}
-use Rattle.arena.specs.Layout.{sameView, passed}
+use Rattle.boxes.specs.Layout.{sameView, passed}
 use Rattle.arena.specs.Fields.{fieldOf, vacant, reclaimed, claimed, firstField, Shown, noText}
 use Rattle.tree.specs.Trees.{limitOf, withNodes, withStyles, withPool, withFields, withPass}
 use Rattle.tree.specs.Broken.{broken}
 use Rattle.tree.specs.declared.Ui.{Ui}
 use Rattle.arena.specs.declared.Slot.{Slot}
-use Rattle.arena.specs.declared.Style.{Style}
-use Rattle.arena.specs.declared.Rect.{Rect}
-use Rattle.arena.specs.declared.StatePatch.{StatePatch}
-use Rattle.arena.specs.declared.Viewport.{Viewport}
+use Rattle.boxes.specs.declared.Style.{Style}
+use Rattle.boxes.specs.declared.Rect.{Rect}
+use Rattle.boxes.specs.declared.StatePatch.{StatePatch}
+use Rattle.boxes.specs.declared.Viewport.{Viewport}
 
 -- What a call gives: the next tree, and its answer.
 pub record Outcome (A : Type 0) : Type 0 where

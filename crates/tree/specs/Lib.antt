@@ -8,15 +8,15 @@ pub mod Answers
 pub mod WholeTrees
 -- what arena defines, under the tree's name
 pub use Rattle.arena.specs.Slots
-pub use Rattle.arena.specs.Styles
-pub use Rattle.arena.specs.Geometry
-pub use Rattle.arena.specs.States
-pub use Rattle.arena.specs.Layout
-pub use Rattle.arena.specs.Hit
+pub use Rattle.boxes.specs.Styles
+pub use Rattle.boxes.specs.Geometry
+pub use Rattle.boxes.specs.States
+pub use Rattle.boxes.specs.Layout
+pub use Rattle.boxes.specs.Hit
 pub use Rattle.arena.specs.Fields
 pub use Rattle.arena.specs.Rules
 pub use Rattle.arena.specs.Forest
 pub use Rattle.arena.specs.Spelled
-pub use Rattle.arena.specs.Nodes
-pub use Rattle.arena.specs.History
+pub use Rattle.boxes.specs.Nodes
+pub use Rattle.boxes.specs.History
 pub use Rattle.arena.specs.Support.Places

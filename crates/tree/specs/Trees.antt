@@ -8,11 +8,11 @@ use Rattle.field.specs.declared.NodeId.{NodeId}
 use Rattle.field.specs.declared.Field.{Field}
 use Rattle.tree.specs.declared.Ui.{Ui}
 use Rattle.arena.specs.declared.Slot.{Slot}
-use Rattle.arena.specs.declared.LayoutSlot.{LayoutSlot}
-use Rattle.arena.specs.declared.StateSlot.{StateSlot}
-use Rattle.arena.specs.declared.StatePatch.{StatePatch}
+use Rattle.boxes.specs.declared.LayoutSlot.{LayoutSlot}
+use Rattle.boxes.specs.declared.StateSlot.{StateSlot}
+use Rattle.boxes.specs.declared.StatePatch.{StatePatch}
 use Rattle.tree.specs.declared.Interaction.{Interaction}
-use Rattle.arena.specs.declared.Viewport.{Viewport}
+use Rattle.boxes.specs.declared.Viewport.{Viewport}
 use Rattle.arithmetic.specs.Tests.{over}
 
 -- The limit in force, the pool, the stated slots and the waiting outputs, oldest first.

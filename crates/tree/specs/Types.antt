@@ -1,11 +1,11 @@
 -- The types of arena that the tree is made of, under the tree's name.
-pub use Rattle.arena.specs.declared.Edges.{Edges}
-pub use Rattle.arena.specs.declared.Style.{Style}
-pub use Rattle.arena.specs.declared.Rect.{Rect}
+pub use Rattle.boxes.specs.declared.Edges.{Edges}
+pub use Rattle.boxes.specs.declared.Style.{Style}
+pub use Rattle.boxes.specs.declared.Rect.{Rect}
 pub use Rattle.arena.specs.declared.Slot.{Slot}
-pub use Rattle.arena.specs.declared.LayoutSlot.{LayoutSlot}
-pub use Rattle.arena.specs.declared.StateSlot.{StateSlot}
-pub use Rattle.arena.specs.declared.StatePatch.{StatePatch}
-pub use Rattle.arena.specs.declared.Pointer.{Pointer}
-pub use Rattle.arena.specs.declared.Viewport.{Viewport}
+pub use Rattle.boxes.specs.declared.LayoutSlot.{LayoutSlot}
+pub use Rattle.boxes.specs.declared.StateSlot.{StateSlot}
+pub use Rattle.boxes.specs.declared.StatePatch.{StatePatch}
+pub use Rattle.boxes.specs.declared.Pointer.{Pointer}
+pub use Rattle.boxes.specs.declared.Viewport.{Viewport}
 pub use Rattle.arena.specs.declared.fields.Place.the-variants.{Nowhere, At}

@@ -5,11 +5,12 @@ use mathlib.Core.List.{List, [], _++_}
 use lib.ListN.{set}
 use Rattle.field.specs.declared.MaybeId.{MaybeId}
 use Rattle.arithmetic.specs.Tests.{same}
-use Rattle.arena.specs.Styles.{noPatch, layoutAt, stateAt}
-use Rattle.arena.specs.States.{Appearance, wear, wearAll, withStyle, bitsBy, liveSlot, bearing, backwards, based, tabled}
+use Rattle.boxes.specs.Styles.{noPatch, layoutAt, stateAt}
+use Rattle.boxes.specs.States.{Appearance, wear, wearAll, withStyle, bitsBy, liveSlot, bearing, based, tabled}
+use Rattle.arena.specs.Slots.{backwards}
 use Rattle.tree.specs.Trees.{limitOf, poolOf, statedOf, withStyles, withStated}
 use Rattle.tree.specs.declared.Ui.{Ui}
-use Rattle.arena.specs.declared.Style.{Style}
+use Rattle.boxes.specs.declared.Style.{Style}
 
 -- What wearing changes of the tree, and the tree with another.
 abbrev pub appearanceOf : Ui → Appearance

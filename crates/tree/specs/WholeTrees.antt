@@ -10,14 +10,14 @@ use Rattle.field.specs.declared.MaybeId.the-variants.{Present}
 use Rattle.arithmetic.specs.Tests.{δ, occ}
 use Rattle.arena.specs.Slots.{NIL, at, isLive, chain, kidsAt, unlink, freeing}
 use Rattle.arena.specs.Rules.{aliveness}
-use Rattle.arena.specs.Hit.{holdsAt}
+use Rattle.boxes.specs.Hit.{holdsAt}
 use Rattle.arena.specs.Forest.{Forest, size, cutOf}
 use Rattle.arena.specs.Spelled.{cnt, top, SegR}
 use Rattle.tree.specs.Trees.{limitOf}
 use Rattle.tree.specs.Broken.{broken}
 use Rattle.tree.specs.Input.{hitTest}
 use Rattle.tree.specs.Calls.{removeAt}
-use Rattle.arena.specs.declared.Pointer.{Pointer}
+use Rattle.boxes.specs.declared.Pointer.{Pointer}
 use Rattle.tree.specs.declared.Ui.{Ui}
 
 -- The tree is the forest, of whose nodes nothing but the ids is said.

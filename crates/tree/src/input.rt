@@ -3,7 +3,7 @@ ghost use mathlib.Core.Path.{_≡_};
 ghost use Rattle.tree.specs.Input.{hitTest};
 use crate::Pointer;
 use crate::Ui;
-use arena::input;
+use boxes::input;
 use field::MaybeId;
 
 // The node under a pixel: none where the root's box does not hold it.

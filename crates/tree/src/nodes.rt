@@ -13,8 +13,8 @@ use crate::Slot;
 use crate::Ui;
 use crate::answers::Neighbour;
 use arena::links;
-use arena::nodes;
-use arena::start;
+use boxes::nodes;
+use boxes::start;
 
 // No neighbour.
 const NIL: u32 = 4294967295;

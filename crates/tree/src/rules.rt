@@ -5,7 +5,7 @@ use crate::Ui;
 use arena::fields::fields_ok;
 use arena::fields::owners_well;
 use arena::rules::links_well;
-use arena::state;
+use boxes::state;
 
 // Whether the tree breaks a rule, the link rules or another.
 pub fn broken(u: Ui) -> bool

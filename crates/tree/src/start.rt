@@ -2,7 +2,7 @@
 ghost use mathlib.Core.Path.{_≡_};
 ghost use mathlib.Core.Bool.{false};
 ghost use lib.ListN.{replicate};
-ghost use Rattle.arena.specs.Styles.{freshStyle};
+ghost use Rattle.boxes.specs.Styles.{freshStyle};
 ghost use Rattle.field.specs.Fields.{emptyField};
 ghost use Rattle.tree.specs.Calls.{fresh};
 ghost use Rattle.arena.specs.Slots.{nobody};
@@ -12,7 +12,7 @@ use crate::StatePatch;
 use crate::Ui;
 use crate::UiLimits;
 use crate::Viewport;
-use arena::start;
+use boxes::start;
 use field::Field;
 use field::MaybeId;
 use field::NodeId;

@@ -1,6 +1,6 @@
 // What nodes wear: styles, tables and the pool over the whole tree, by the bits of each node.
 ghost use mathlib.Core.Path.{_≡_};
-ghost use Rattle.arena.specs.States.{wear, bareAll};
+ghost use Rattle.boxes.specs.States.{wear, bareAll};
 ghost use Rattle.arithmetic.specs.Tests.{fromTo};
 ghost use Rattle.tree.specs.Calls.{pooled};
 ghost use Rattle.tree.specs.Wearing.{appearanceOf, withAppearance, styledAt, tabledAt};
@@ -8,13 +8,13 @@ ghost use Rattle.tree.specs.Trees.{poolOf};
 use crate::StatePatch;
 use crate::Style;
 use crate::Ui;
-use arena::state;
-use arena::state::NO_PATCH;
-use arena::wearing::bare;
-use arena::wearing::based;
-use arena::wearing::styled;
-use arena::wearing::tabled;
-use arena::wearing::worn;
+use boxes::state;
+use boxes::state::NO_PATCH;
+use boxes::wearing::bare;
+use boxes::wearing::based;
+use boxes::wearing::styled;
+use boxes::wearing::tabled;
+use boxes::wearing::worn;
 
 // Slot i wears what its table has for the bits. Past the slots nothing is stored: what is read there wears patch 0.
 pub(crate) fn wear(u: Ui, i: u32, bits: u8) -> Ui

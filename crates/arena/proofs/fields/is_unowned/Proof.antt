@@ -9,7 +9,7 @@ use lib.ListN.{length, drop}
 use Rattle.field.specs.declared.MaybeId.the-variants.{Present}
 use Rattle.field.specs.declared.Field.{Field}
 use Rattle.arena.specs.Fields.{owns}
-use Rattle.arena.specs.States.{isId}
+use Rattle.arena.specs.Slots.{isId}
 use Rattle.arena.proofs.Owners.Places.{noField}
 use Rattle.arithmetic.proofs.LoopLaws.{all-more, all-stop, all-done}
 use Rattle.arena.proofs.fields.is_unowned.Statement.{statement}

@@ -3,7 +3,7 @@ use mathlib.Core.Path.{_∙_}
 use mir.Syntax.{w32}
 use mir.ValLaws.{toZ-ofZ}
 use Rattle.tree.specs.Trees.{withInteraction}
-use Rattle.arena.specs.declared.Key.the-variants.{Char, Op}
+use Rattle.boxes.specs.declared.Key.the-variants.{Char, Op}
 use Rattle.desk.proofs.EventLaws.{release-keeps-the-pointer, key-keeps-the-pointer}
 use borrow.Author.Needs.{needs}
 use Rattle.desk.proofs.events.pointer_after.Statement.{statement}

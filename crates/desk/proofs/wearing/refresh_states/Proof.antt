@@ -11,7 +11,7 @@ use Rattle.arena.specs.Slots.{at}
 use Rattle.arithmetic.specs.Tests.{same}
 use Rattle.tree.specs.Calls.{gives}
 use Rattle.tree.specs.Wearing.{bitsAt, withAppearance}
-use Rattle.arena.specs.Styles.{noPatch, layoutAt, stateAt}
+use Rattle.boxes.specs.Styles.{noPatch, layoutAt, stateAt}
 use Rattle.tree.specs.Trees.{withStyles}
 use Rattle.tree.specs.declared.Ui.{Ui}
 use Rattle.tree.proofs.Wearings.{refreshed-whole, lookAfter, look-first, look-last, look-same, look-other, look-past, look-lengths, look-slots, look-pools, look-style, bits-there}

@@ -2,7 +2,7 @@
 use mathlib.Core.Path.{sym, ap, _∙_}
 use Rattle.text.specs.Refusal.{accepted}
 use Rattle.tree.specs.Calls.{Outcome, rect}
-use Rattle.arena.specs.declared.Rect.{Rect}
+use Rattle.boxes.specs.declared.Rect.{Rect}
 use Rattle.tree.proofs.Prechecks.{refused-at-once, not-refused}
 use borrow.Author.Needs.{needs}
 use Rattle.tree.proofs.Ui.rect.Statement.{statement}

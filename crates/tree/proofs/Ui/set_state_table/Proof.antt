@@ -6,7 +6,7 @@ use Prim.Native.Nat.{ℕ}
 use Rattle.tree.proofs.Prechecks.{refused-at-once, not-refused}
 use Rattle.text.specs.declared.refusal.Refusal.the-variants.{Foreign}
 use Rattle.arithmetic.specs.Tests.{all}
-use Rattle.arena.specs.States.{inPool}
+use Rattle.boxes.specs.States.{inPool}
 use Rattle.tree.specs.Wearing.{tabledAt}
 use Rattle.tree.specs.Calls.{Outcome, gives, refuses, setStateTable}
 use borrow.Author.Needs.{needs}

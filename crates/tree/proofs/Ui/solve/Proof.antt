@@ -6,7 +6,7 @@ use Rattle.tree.specs.Calls.{guarded, solve}
 use borrow.Author.Needs.{needs}
 use Rattle.tree.proofs.Ui.solve.Statement.{statement}
 use Rattle.tree.proofs.Ui.solve.Tie as tie
-use Rattle.arena.specs.Layout.{sameView}
+use Rattle.boxes.specs.Layout.{sameView}
 
 broken-requires : tie.Need-broken-requires
 broken-requires c κs = search needs

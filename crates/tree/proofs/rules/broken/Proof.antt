@@ -8,7 +8,8 @@ use Prim.Native.Nat.{ℕ, _≤_}
 use Rattle.field.specs.Fields.{fieldOk}
 use Rattle.arithmetic.specs.Tests.{all}
 use Rattle.tree.specs.Trees.{limitOf, statedOf}
-use Rattle.arena.specs.Rules.{linked, stateWell, distinct, ownersWell}
+use Rattle.arena.specs.Rules.{linked, distinct, ownersWell}
+use Rattle.boxes.specs.States.{stateWell}
 use Rattle.tree.specs.Broken.{linksWell, broken}
 use Rattle.tree.specs.declared.Ui.{Ui}
 use borrow.Author.Needs.{needs}

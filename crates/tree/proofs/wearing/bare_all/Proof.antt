@@ -6,9 +6,9 @@ use borrow.Author.Tests.{eq-eqb, ne-eqb}
 use Prim.Native.Nat.{_-_, _≤_}
 use lib.ListN.{length, length-map, length-set}
 use Rattle.arithmetic.specs.Tests.{same, fromTo}
-use Rattle.arena.specs.Styles.{stateAt, layoutAt}
+use Rattle.boxes.specs.Styles.{stateAt, layoutAt}
 use Rattle.tree.specs.Trees.{withStyles}
-use Rattle.arena.specs.States.{bareAll}
+use Rattle.boxes.specs.States.{bareAll}
 use Rattle.tree.specs.Wearing.{appearanceOf, withAppearance}
 use Rattle.tree.proofs.Wearings.{bare-start, bare-more, bare-done, bared-outside, bared-as-it-is, bared-anew}
 use Rattle.tree.proofs.wearing.bare_all.Statement.{statement}

@@ -6,7 +6,7 @@ use borrow.Author.Tests.{eq-eqb, ne-eqb}
 use Rattle.tree.proofs.Wearings.{styled-past}
 use Rattle.tree.specs.Wearing.{styledAt}
 use Rattle.arithmetic.specs.Tests.{same}
-use Rattle.arena.specs.Styles.{stateAt, layoutAt}
+use Rattle.boxes.specs.Styles.{stateAt, layoutAt}
 use Rattle.tree.specs.Trees.{withStyles}
 use borrow.Author.Needs.{needs}
 use Rattle.tree.proofs.wearing.style_at.Statement.{statement}

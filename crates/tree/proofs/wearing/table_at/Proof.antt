@@ -4,7 +4,7 @@ use lib.ListN.{length, length-map}
 use native.Mathlib.Omega.{arith}
 use Rattle.tree.proofs.Wearings.{tabled-past}
 use Rattle.tree.specs.Wearing.{tabledAt, withAppearance}
-use Rattle.arena.specs.Styles.{stateAt}
+use Rattle.boxes.specs.Styles.{stateAt}
 use Rattle.tree.specs.Trees.{withStyles}
 use borrow.Author.Needs.{needs}
 use Rattle.tree.proofs.wearing.table_at.Statement.{statement}

@@ -3,11 +3,11 @@ use mathlib.Core.Path.{_≡_, sym, _∙_}
 use lib.ListN.{length, length-map}
 use native.Mathlib.Omega.{arith}
 use borrow.Author.Tests.{eq-eqb, ne-eqb}
-use Rattle.arena.proofs.Styles.Wearings.{wear-past}
-use Rattle.arena.specs.States.{wear}
+use Rattle.boxes.proofs.Styles.Wearings.{wear-past}
+use Rattle.boxes.specs.States.{wear}
 use Rattle.tree.specs.Wearing.{appearanceOf, withAppearance}
 use Rattle.arithmetic.specs.Tests.{same}
-use Rattle.arena.specs.Styles.{layoutAt, stateAt}
+use Rattle.boxes.specs.Styles.{layoutAt, stateAt}
 use Rattle.tree.specs.Trees.{poolOf, withStyles}
 use borrow.Author.Needs.{needs}
 use Rattle.tree.proofs.wearing.wear.Statement.{statement}

@@ -1,6 +1,0 @@
-pub mod GeometryLaws
-pub mod Raws
-pub mod Pools
-pub mod WearLaws
-pub mod Keeps
-pub mod Wearings

@@ -1,0 +1,10 @@
+pub mod Styles
+pub mod Geometry
+pub mod States
+pub mod Layout
+pub mod Hit
+pub mod Nodes
+pub mod History
+pub mod Runs
+pub mod SourceRuns
+pub mod Support
