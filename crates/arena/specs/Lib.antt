@@ -7,6 +7,7 @@ pub mod Hit
 pub mod Fields
 pub mod Rules
 pub mod Forest
+pub mod Spelled
 pub mod Nodes
 pub mod History
 pub mod Runs

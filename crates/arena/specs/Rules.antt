@@ -44,12 +44,16 @@ eachOnce n s reached free =
     all (once s reached free) (fromTo 0 n)
     && (all (λ (i : ℕ). ltb i n) reached && all (λ (i : ℕ). ltb i n) free)
 
+-- Slot 0 is live and alone on top.
+abbrev pub rootWell : Slots → Bool
+rootWell s = at s 0 .live && (same (at s 0 .parent) NIL && (same (at s 0 .«prev_sibling») NIL && same (at s 0 .«next_sibling») NIL))
+
 -- The links of a tree: its limit, its slots, the head of its free chain and its count of live nodes.
 unfoldable pub linked : ℕ → Slots → ℕ → ℕ → Bool
 linked n s head live =
     let reached = order 128 s (0 ∷ []) in
     let free = chain 128 s head in
-    (at s 0 .live && (same (at s 0 .parent) NIL && (same (at s 0 .«prev_sibling») NIL && same (at s 0 .«next_sibling») NIL)))
+    rootWell s
     && (eachOnce n s reached free
     && (all (nodeWell s) reached
     && (same head (headOr NIL free) && (freeWell s free && same live (length reached)))))

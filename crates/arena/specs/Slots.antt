@@ -3,7 +3,7 @@ use Prim.Native.Nat.{ℕ, zero, suc, _+_, _%_, _^_}
 use mathlib.Core.Bool.{Bool, true, false, _&&_, cond}
 use mathlib.Core.List.{List, [], _∷_, _++_}
 use lib.Dec.{ltb}
-use lib.ListN.{getD, set, take}
+use lib.ListN.{getD, set}
 use Rattle.field.specs.declared.NodeId.{NodeId}
 use Rattle.arithmetic.specs.Tests.{same}
 use Rattle.arena.specs.declared.Slot.{Slot}
@@ -65,11 +65,6 @@ unfoldable pub chain : ℕ → Slots → ℕ → List ℕ
 chain zero s c = []
 chain (suc k) s c = cond (ltb c 128) (c ∷ chain k s (at s c .«next_sibling»)) []
 
--- The same by previous links.
-unfoldable pub chainBack : ℕ → Slots → ℕ → List ℕ
-chainBack zero s c = []
-chainBack (suc k) s c = cond (ltb c 128) (c ∷ chainBack k s (at s c .«prev_sibling»)) []
-
 -- The children of slot i in order.
 unfoldable pub kidsAt : Slots → ℕ → List ℕ
 kidsAt s i = chain 128 s (at s i .«first_child»)
@@ -101,14 +96,19 @@ abbrev pub joined : (ℕ → List ℕ) → List ℕ → List ℕ
 joined f [] = []
 joined f (c ∷ cs) = f c ++ joined f cs
 
--- The order of freeing: the node, then each child's subtree, last child first.
+-- The list from its last to its first.
+abbrev pub backwards : List ℕ → List ℕ
+backwards [] = []
+backwards (i ∷ is) = backwards is ++ i ∷ []
+
+-- The order of freeing: the node, then each child's subtree, last child first; d levels of it.
 unfoldable pub freeOrder : ℕ → Slots → ℕ → List ℕ
 freeOrder zero s i = []
-freeOrder (suc d) s i = i ∷ joined (freeOrder d s) (chainBack 128 s (at s i .«last_child»))
+freeOrder (suc d) s i = i ∷ joined (freeOrder d s) (backwards (kidsAt s i))
 
--- At most 128 of it. Where the slots hold a forest, as after any calls from a new tree, that is all of it.
+-- All of it: no tree that keeps the link rules is deeper than 128.
 unfoldable pub freeing : Slots → ℕ → List ℕ
-freeing s i = take 128 (freeOrder 128 s i)
+freeing s i = freeOrder 128 s i
 
 -- Plus 1, modulo 2^64.
 unfoldable pub nextGeneration : ℕ → ℕ

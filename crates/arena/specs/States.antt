@@ -1,4 +1,5 @@
 -- Document 01, **States**: what a node wears for its bits, and how styles, tables and the pool change it.
+pub use Rattle.arena.specs.Slots.{backwards}
 use Prim.Native.Nat.{ℕ, _+_, _%_}
 use mathlib.Core.Bool.{Bool, true, false, _&&_, _||_, not, cond}
 use mathlib.Core.List.{List, [], _∷_, _++_}
@@ -88,10 +89,6 @@ liveSlot n s (Present d) = cond (isLive n s d) (d .index ∷ []) []
 unfoldable pub bearing : (ℕ → ℕ) → List ℕ → List ℕ → List ℕ
 bearing bits′ kept [] = kept
 bearing bits′ kept (i ∷ is) = bearing bits′ (cond (same (bits′ i) 0 || not (same (occ i kept) 0)) kept (kept ++ i ∷ [])) is
-
-abbrev pub backwards : List ℕ → List ℕ
-backwards [] = []
-backwards (i ∷ is) = backwards is ++ i ∷ []
 
 -- A state slot with another base style, and one with another table.
 abbrev pub based : StateSlot → Style → StateSlot

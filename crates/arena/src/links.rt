@@ -1,11 +1,11 @@
 // Slots and their links, over the array of slots by value. An index that is no slot reads the zero slot and stores nothing.
 ghost use mathlib.Core.Bool.{cond};
 ghost use mathlib.Core.Path.{_≡_};
-ghost use Rattle.arena.specs.Slots.{at, put, isLive, idAt, change, setFirst, setLast, setPrev, setNext, linkLast, NIL, Slots, freeOrder, idle, nextGeneration, freed};
+ghost use Rattle.arena.specs.Slots.{at, put, isLive, idAt, change, setFirst, setLast, setPrev, setNext, linkLast, NIL, Slots, idle, nextGeneration, freed};
 ghost use Rattle.arena.specs.Slots as links;
 ghost use Prim.Native.Nat.{_≤_};
-ghost use lib.ListN.{length, getD, take};
-ghost use Rattle.arena.specs.Support.Lists.{listed, orderOf, noneListed, addedAll, LinksOf};
+ghost use lib.ListN.{length, getD};
+ghost use Rattle.arena.specs.Support.Lists.{listed, orderOf, noneListed, addedAll, LinksOf, backOrder, walked};
 ghost use Rattle.arithmetic.specs.Tests.{same, finalOr};
 ghost use Rattle.arena.specs.declared.Slot.{Slot};
 use crate::Slot;
@@ -218,7 +218,7 @@ fn list_freed(
     node: u32,
     depth: u32,
 ) -> u32
-    ensures { λ r. ⌜ ((s : Slots) → LinksOf s (λ (x : Slot). x .«last_child») (now (last .entry)) → LinksOf s (λ (x : Slot). x .«prev_sibling») (now (prev .entry)) → orderOf (now (items .exit)) r ≡ addedAll (orderOf (now (items .entry)) count) (freeOrder depth s node)) ⌝ }
+    ensures { λ r. ⌜ ((s : Slots) → LinksOf s (λ (x : Slot). x .«last_child») (now (last .entry)) → LinksOf s (λ (x : Slot). x .«prev_sibling») (now (prev .entry)) → orderOf (now (items .exit)) r ≡ addedAll (orderOf (now (items .entry)) count) (backOrder depth s node)) ⌝ }
 {
     if depth == 0 {
         return count;
@@ -244,7 +244,7 @@ fn list_freed(
 
 // The node and all below it in the order of freeing, as far as 128 go.
 pub fn freed_order(slots: [Slot; 128], node: u32) -> Order
-    ensures { λ r. ⌜ (r .count ≤ 128) × (listed r ≡ take 128 (freeOrder 128 slots node)) ⌝ }
+    ensures { λ r. ⌜ (r .count ≤ 128) × (listed r ≡ walked slots node) ⌝ }
 {
     let back = links_back(slots);
     let last = back.last;

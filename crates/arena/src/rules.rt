@@ -8,7 +8,7 @@ ghost use lib.ListN.{take};
 ghost use Rattle.arithmetic.specs.Tests.{same, headOr, all, fromTo};
 ghost use Rattle.arena.specs.Slots.{NIL, at, chain, order};
 ghost use Rattle.arena.specs.Support.Lists.{orderOf, added, Small, Tallied};
-ghost use Rattle.arena.specs.Rules.{aliveness, once, nodeWell, freeWell, eachOnce, linked};
+ghost use Rattle.arena.specs.Rules.{aliveness, once, nodeWell, freeWell, eachOnce, rootWell, linked};
 use crate::Slot;
 
 // No neighbour.
@@ -193,7 +193,7 @@ fn each_once(limit: u32, slots: [Slot; 128], reached: Walked, free: Walked) -> b
 
 // Whether slot 0 is live and alone at the top.
 fn root_well(slots: [Slot; 128]) -> bool
-    ensures { λ r. ⌜ r ≡ (at slots 0 .live && (same (at slots 0 .parent) NIL && (same (at slots 0 .«prev_sibling») NIL && same (at slots 0 .«next_sibling») NIL))) ⌝ }
+    ensures { λ r. ⌜ r ≡ rootWell slots ⌝ }
 {
     let s = slots[0];
     s.live & ((s.parent == NIL) & ((s.prev_sibling == NIL) & (s.next_sibling == NIL)))

@@ -2,6 +2,7 @@
 mod events;
 mod fold;
 mod outputs;
+mod wearing;
 
 ghost use mathlib.Core.Path.{_≡_};
 ghost use Rattle.field.specs.Metres.{answerOf};
@@ -25,7 +26,6 @@ use tree::answers::Neighbour;
 use tree::fields;
 use tree::input;
 use tree::rules;
-use tree::wearing;
 
 // What an event changes of a tree, before the bits are refreshed.
 pub(crate) struct Parts {

@@ -13,7 +13,8 @@ use Rattle.text.specs.declared.utf8.Place.{Place}
 use Rattle.arithmetic.proofs.BoolLaws.{within-yes, and-left, and-right}
 use Rattle.text.proofs.Leads.{Lead, lead-case}
 use Rattle.text.proofs.Leads.Lead.{one, two, three-e0, three-e1, three-ed, three-ee, four-f0, four-f1, four-f4, none}
-use Rattle.text.proofs.Scalars.{scalar-top, scalar-gap, encoded-one, encoded-two, encoded-three, encoded-four}
+use Rattle.text.proofs.Scalars.{scalar-top, scalar-gap, encoded-one, encoded-two, encoded-three, encoded-four, Size, size-of}
+use Rattle.text.proofs.Scalars.Size.{of-one, of-two, of-three, of-four}
 use Rattle.text.proofs.Sound.{step-lead}
 
 -- the bytes u take a reader at q to the end of the character c
@@ -146,23 +147,20 @@ abbrev Taken : Place → ℕ → List ℕ → Type 0
 Taken p c s = (runFrom p (encoded c ++ s) .left ≡ runFrom start s .left) × (scalarsFrom p (encoded c ++ s) ≡ c ∷ scalarsFrom start s)
 
 pub char-read : (p : Place) (c : ℕ) (s : List ℕ) → p .left ≡ 0 → isScalar c ≡ true → Taken p c s
-char-read p c s e h = go1 (leb c 0x7F) refl
+char-read p c s e h = by-size (size-of c)
   where
-    go3 : (t : Bool) → leb c 0xFFFF ≡ t → 0x7FF < c → Taken p c s
-    go3 true k l = let m = leb-true c 0xFFFF k in
-        rw (encoded-three c l m) (led (0xE0 + c / 4096) ((0x80 + c / 64 % 64) ∷ (0x80 + c % 64) ∷ []) p c s e (three-fits c (leadOf (0xE0 + c / 4096)) (lead-case (0xE0 + c / 4096)) l m (scalar-gap c h)))
-    go3 false k l = let m = leb-false c 0xFFFF k in
-        rw (encoded-four c m) (led (0xF0 + c / 262144) ((0x80 + c / 4096 % 64) ∷ (0x80 + c / 64 % 64) ∷ (0x80 + c % 64) ∷ []) p c s e (four-fits c (leadOf (0xF0 + c / 262144)) (lead-case (0xF0 + c / 262144)) m (scalar-top c h)))
-
-    go2 : (t : Bool) → leb c 0x7FF ≡ t → 0x7F < c → Taken p c s
-    go2 true k l = let m = leb-true c 0x7FF k in
+    by-size : Size c → Taken p c s
+    by-size (of-one m) = rw (encoded-one c m) (led c [] p c s e (one-fits c (leadOf c) (lead-case c) m))
+    by-size (of-two l m) =
         rw (encoded-two c l m) (led (0xC0 + c / 64) ((0x80 + c % 64) ∷ []) p c s e (two-fits c (leadOf (0xC0 + c / 64)) (lead-case (0xC0 + c / 64)) l m))
-    go2 false k l = go3 (leb c 0xFFFF) refl (leb-false c 0x7FF k)
-
-    go1 : (t : Bool) → leb c 0x7F ≡ t → Taken p c s
-    go1 true k = let m = leb-true c 0x7F k in
-        rw (encoded-one c m) (led c [] p c s e (one-fits c (leadOf c) (lead-case c) m))
-    go1 false k = go2 (leb c 0x7FF) refl (leb-false c 0x7F k)
+    by-size (of-three l m) =
+        rw (encoded-three c l m)
+        (led (0xE0 + c / 4096) ((0x80 + c / 64 % 64) ∷ (0x80 + c % 64) ∷ []) p c s e
+        (three-fits c (leadOf (0xE0 + c / 4096)) (lead-case (0xE0 + c / 4096)) l m (scalar-gap c h)))
+    by-size (of-four l) =
+        rw (encoded-four c l)
+        (led (0xF0 + c / 262144) ((0x80 + c / 4096 % 64) ∷ (0x80 + c / 64 % 64) ∷ (0x80 + c % 64) ∷ []) p c s e
+        (four-fits c (leadOf (0xF0 + c / 262144)) (lead-case (0xF0 + c / 262144)) l (scalar-top c h)))
 
 -- what was written is read back
 all-read : (cs : List ℕ) (s : List ℕ) → allScalars cs ≡ true

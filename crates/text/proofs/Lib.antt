@@ -8,4 +8,5 @@ pub mod Complete
 pub mod Shapes
 pub mod Texts
 pub mod Encodes
+pub mod Order
 pub mod Rfc3629

@@ -1,5 +1,6 @@
 -- What is written and read is what RFC 3629 says. A character's bytes are one alternative of the grammar, found by the character's size;
--- and each alternative is some scalar value's bytes, so a string of the grammar is written, and what is written the reader takes. Assumes nothing.
+-- and each alternative is some scalar value's bytes, so a string of the grammar is written, and what is written the reader takes. That bytes sort
+-- as codes stands in Order. Assumes nothing.
 use mathlib.Core.Path.{_≡_, refl, sym, ap, ap₂, subst, _∙_}
 use mathlib.Core.Bool.{Bool, true, false}
 use mathlib.Core.List.{List, [], _∷_, _++_}
@@ -12,9 +13,11 @@ use Rattle.text.specs.Utf8.Octets.{none, utf8-1, utf8-2, utf8-3-e0, utf8
 use Rattle.text.specs.Reader.{isUtf8, scalars}
 use Rattle.text.specs.Rfc3629.{Written, AsRfc3629}
 use Rattle.arithmetic.proofs.BoolLaws.{and-left, and-right, and-both}
-use Rattle.text.proofs.Scalars.{scalar-top, scalar-gap, scalar-low, scalar-high, encoded-one, encoded-two, encoded-three, encoded-four}
+use Rattle.text.proofs.Scalars.{scalar-top, scalar-gap, scalar-low, scalar-high, encoded-one, encoded-two, encoded-three, encoded-four, Size, size-of}
+use Rattle.text.proofs.Scalars.Size.{of-one, of-two, of-three, of-four}
 use Rattle.text.proofs.Sound.{read-writes, read-scalars, two-good, three-bytes, four-good}
 use Rattle.text.proofs.Complete.{written-well, written-reads}
+use Rattle.text.proofs.Order.{characters-sort-as-codes, texts-sort-as-their-codes}
 
 -- a character's bytes before a string of the grammar
 module _ (c : ℕ) (h : isScalar c ≡ true) (s : List ℕ) (o : Octets s) where
@@ -46,22 +49,13 @@ module _ (c : ℕ) (h : isScalar c ≡ true) (s : List ℕ) (o : Octets s) where
       let m = leb-true 0x100000 c eu in utf8-4-f4 {a = 0xF0 + c / 262144} {b = 0x80 + c / 4096 % 64} {c = 0x80 + c / 64 % 64} {d = 0x80 + c % 64} (omega arith) (omega arith) (omega arith) (omega arith) o
 
   pub character-is-an-alternative : Octets (encoded c ++ s)
-  character-is-an-alternative = by-size (leb c 0x7F) (leb c 0x7FF) (leb c 0xFFFF) refl refl refl
+  character-is-an-alternative = by-size (size-of c)
     where
-      by-size : (t u v : Bool) → leb c 0x7F ≡ t → leb c 0x7FF ≡ u → leb c 0xFFFF ≡ v → Octets (encoded c ++ s)
-      by-size true u v et eu ev =
-          let m = leb-true c 0x7F et in rw (encoded-one c m) (utf8-1 {a = c} (omega arith) o)
-      by-size false true v et eu ev =
-          let l = leb-false c 0x7F et in
-          let m = leb-true c 0x7FF eu in
-          rw (encoded-two c l m) (utf8-2 {a = 0xC0 + c / 64} {b = 0x80 + c % 64} (omega arith) (omega arith) o)
-      by-size false false true et eu ev =
-          let l = leb-false c 0x7FF eu in
-          let m = leb-true c 0xFFFF ev in
-          rw (encoded-three c l m) (three (leb 0x1000 c) (leb 0xD000 c) (leb 0xE000 c) refl refl refl l m)
-      by-size false false false et eu ev =
-          let l = leb-false c 0xFFFF ev in
-          rw (encoded-four c l) (four (leb 0x40000 c) (leb 0x100000 c) refl refl l (scalar-top c h))
+      by-size : Size c → Octets (encoded c ++ s)
+      by-size (of-one m) = rw (encoded-one c m) (utf8-1 {a = c} (omega arith) o)
+      by-size (of-two l m) = rw (encoded-two c l m) (utf8-2 {a = 0xC0 + c / 64} {b = 0x80 + c % 64} (omega arith) (omega arith) o)
+      by-size (of-three l m) = rw (encoded-three c l m) (three (leb 0x1000 c) (leb 0xD000 c) (leb 0xE000 c) refl refl refl l m)
+      by-size (of-four l) = rw (encoded-four c l) (four (leb 0x40000 c) (leb 0x100000 c) refl refl l (scalar-top c h))
 
 encodings-are-octets : (cs : List ℕ) → allScalars cs ≡ true → Octets (encodedAll cs)
 unfolding encodedAll allScalars
@@ -136,4 +130,6 @@ as-rfc-3629 = record {
   one-list = λ s v w. list-read s v ∙ sym (list-read s w);
   read-back = written-reads;
   written-back = λ s o. read-writes s (octets-are-taken s o);
+  bytes-sort-as-codes = λ a b _ _. characters-sort-as-codes a b;
+  texts-sort-as-codes = texts-sort-as-their-codes;
 }

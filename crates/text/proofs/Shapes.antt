@@ -1,18 +1,18 @@
 -- A character's bytes are one that is no tail, and then tails: so a walk over tails is a walk over a character. Assumes nothing.
 use mathlib.Core.Path.{_≡_, refl, sym, ap, ap₂, _∙_}
-use mathlib.Core.Bool.{Bool, true, false}
+use mathlib.Core.Bool.{true, false}
 use mathlib.Core.List.{List, [], _∷_, _++_, append-assoc}
 use Prim.Native.Nat.{ℕ, zero, suc, _+_, _-_, _/_, _%_, _≤_, _<_}
 use native.Mathlib.Nat.{add-zero, add-suc}
 use native.Mathlib.Omega.{arith}
-use borrow.Author.Tests.{leb-true, leb-false, lt-leb, le-leb, lt-ltb}
-use lib.Dec.{leb}
+use borrow.Author.Tests.{lt-leb, le-leb, lt-ltb}
 use lib.ListN.{length, getD, drop, length-drop, length-append, List·getD-append}
 use lib.Seq.{drop-drop, getD-append-add, getD-append-seam}
 use Rattle.arithmetic.specs.Tests.{within}
 use Rattle.text.specs.Utf8.{isScalar, allScalars, encoded, encodedAll}
 use Rattle.arithmetic.proofs.BoolLaws.{within-yes, and-left}
-use Rattle.text.proofs.Scalars.{encoded-one, encoded-two, encoded-three, encoded-four}
+use Rattle.text.proofs.Scalars.{encoded-one, encoded-two, encoded-three, encoded-four, Size, size-of}
+use Rattle.text.proofs.Scalars.Size.{of-one, of-two, of-three, of-four}
 use Rattle.text.specs.Steps.{isTail, backOf, front, stepBack, stepForward}
 use Rattle.text.proofs.Walks.{back-ends-at-no-tail}
 
@@ -40,40 +40,34 @@ six : (x : ℕ) → isTail (0x80 + x % 64) ≡ true
 six x = within-yes 0x80 0xBF (0x80 + x % 64) (omega arith) (omega arith)
 
 pub shape : (c : ℕ) → isScalar c ≡ true → Shape (encoded c)
-shape c h = go1 (leb c 0x7F) refl
+shape c h = by-size (size-of c)
   where
-    go3 : (t : Bool) → leb c 0xFFFF ≡ t → 0x7FF < c → Shape (encoded c)
-    go3 true k l = record {
-      lead = 0xE0 + c / 4096;
-      rest = (0x80 + c / 64 % 64) ∷ (0x80 + c % 64) ∷ [];
-      parts = encoded-three c l (leb-true c 0xFFFF k);
-      first = high (0xE0 + c / 4096) (omega arith);
-      others = (six (c / 64), (six c, tt));
-      few = omega arith;
-    }
-    go3 false k l = record {
-      lead = 0xF0 + c / 262144;
-      rest = (0x80 + c / 4096 % 64) ∷ (0x80 + c / 64 % 64) ∷ (0x80 + c % 64) ∷ [];
-      parts = encoded-four c (leb-false c 0xFFFF k);
-      first = high (0xF0 + c / 262144) (omega arith);
-      others = (six (c / 4096), (six (c / 64), (six c, tt)));
-      few = omega arith;
-    }
-
-    go2 : (t : Bool) → leb c 0x7FF ≡ t → 0x7F < c → Shape (encoded c)
-    go2 true k l = record {
+    by-size : Size c → Shape (encoded c)
+    by-size (of-one m) = record { lead = c; rest = []; parts = encoded-one c m; first = low c (omega arith); others = tt; few = omega arith }
+    by-size (of-two l m) = record {
       lead = 0xC0 + c / 64;
       rest = (0x80 + c % 64) ∷ [];
-      parts = encoded-two c l (leb-true c 0x7FF k);
+      parts = encoded-two c l m;
       first = high (0xC0 + c / 64) (omega arith);
       others = (six c, tt);
       few = omega arith;
     }
-    go2 false k l = go3 (leb c 0xFFFF) refl (leb-false c 0x7FF k)
-
-    go1 : (t : Bool) → leb c 0x7F ≡ t → Shape (encoded c)
-    go1 true k = record { lead = c; rest = []; parts = encoded-one c (leb-true c 0x7F k); first = low c (omega (arith, leb-true c 0x7F k)); others = tt; few = omega arith }
-    go1 false k = go2 (leb c 0x7FF) refl (leb-false c 0x7F k)
+    by-size (of-three l m) = record {
+      lead = 0xE0 + c / 4096;
+      rest = (0x80 + c / 64 % 64) ∷ (0x80 + c % 64) ∷ [];
+      parts = encoded-three c l m;
+      first = high (0xE0 + c / 4096) (omega arith);
+      others = (six (c / 64), (six c, tt));
+      few = omega arith;
+    }
+    by-size (of-four l) = record {
+      lead = 0xF0 + c / 262144;
+      rest = (0x80 + c / 4096 % 64) ∷ (0x80 + c / 64 % 64) ∷ (0x80 + c % 64) ∷ [];
+      parts = encoded-four c l;
+      first = high (0xF0 + c / 262144) (omega arith);
+      others = (six (c / 4096), (six (c / 64), (six c, tt)));
+      few = omega arith;
+    }
 
 tail-at : (ts : List ℕ) (j : ℕ) → Tails ts → j < length ts → isTail (getD ts j 0) ≡ true
 tail-at [] j t h = absurd (omega arith)

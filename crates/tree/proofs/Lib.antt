@@ -16,6 +16,7 @@ pub mod InsertParts
 pub mod CallParts
 pub mod Runs
 pub mod RemoveParts
+pub mod WholeTrees
 pub mod NotBroken
 pub mod FieldParts
 pub mod StartParts

@@ -15,7 +15,7 @@ use Rattle.arithmetic.specs.Tests.{same, all, occ, headOr, fromTo}
 use Rattle.arena.specs.Slots.{Slots, NIL, at, isLive, order, chain, kidsAt}
 use Rattle.tree.specs.Trees.{limitOf}
 use Rattle.tree.specs.Broken.{broken}
-use Rattle.arena.specs.Rules.{linked, eachOnce, aliveness, nodeWell, freeWell}
+use Rattle.arena.specs.Rules.{linked, rootWell, eachOnce, aliveness, nodeWell, freeWell}
 use Rattle.tree.specs.Calls.{Outcome, refuses, guarded, onLive}
 use Rattle.tree.specs.Answers.{precheck}
 use Rattle.tree.specs.declared.Ui.{Ui}
@@ -49,6 +49,10 @@ module _ (u : Ui) (d : NodeId) where
   pub not-broken : precheck u d ≡ Accepted → broken u ≡ false
   unfolding precheck
   not-broken e = bool-cases (broken u) (λ b. not-both Broken (sym (rw b at e))) (λ b. b)
+
+  pub is-live : precheck u d ≡ Accepted → isLive (limitOf u) (u .slots) d ≡ true
+  unfolding precheck
+  is-live e = bool-cases (isLive (limitOf u) (u .slots) d) (λ l. l) (λ l. not-both Missing (sym (rw (not-broken e, l) at e)))
 
 -- ---- a tree that is not broken
 
@@ -93,8 +97,11 @@ module _ (u : Ui) (b : broken u ≡ false) where
   unfolding linked
   parts =
       second-fourth-sixth
-      (at (u .slots) 0 .live && (same (at (u .slots) 0 .parent) NIL && (same (at (u .slots) 0 .«prev_sibling») NIL && same (at (u .slots) 0 .«next_sibling») NIL)))
+      (rootWell (u .slots))
       (eachOnce (limitOf u) (u .slots) reached free) (all (nodeWell (u .slots)) reached) (same (u .free) (headOr NIL free)) (freeWell (u .slots) free) (same (u .live) (length reached)) (rules .links)
+
+  pub well-linked : linked (limitOf u) (u .slots) (u .free) (u .live) ≡ true
+  well-linked = rules .links
 
   pub few-slots : limitOf u ≤ 128
   few-slots = rules .few-nodes

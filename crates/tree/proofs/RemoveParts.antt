@@ -4,9 +4,8 @@ use mathlib.Core.Path.{_≡_, refl, sym, subst, _∙_}
 use mathlib.Core.Logic.{_≢_}
 use mathlib.Core.Bool.{true}
 use mathlib.Core.List.{List, [], _∷_}
-use Prim.Native.Nat.{ℕ, suc, _+_, _<_, _^_, _≤_}
+use Prim.Native.Nat.{ℕ, suc, _+_, _<_, _^_}
 use native.Mathlib.Omega.{arith}
-use lib.Seq.{take-all}
 use lib.ListN.{length, getD, set, length-set}
 use Rattle.field.specs.declared.NodeId.{NodeId}
 use Rattle.field.specs.declared.MaybeId.{MaybeId}
@@ -83,15 +82,9 @@ module _ {k : ℕ} {u : Ui} {t : Forest Info} (L : Links k u t) (small : k < 2 ^
   gone : Removed (limitOf u) (u .slots) (u .free) t (L .chain) (d .index)
   gone = remove-rel (limitOf u) (u .slots) (u .free) t (L .chain) (d .index) (L .rel) (live-id (L .rel) d h .0) nz
 
-  -- all of the order: it has no more slots than the tree
   whole-order : freeing (unlink (u .slots) (d .index)) (d .index) ≡ freedBy u d
   unfolding freeing
-  whole-order =
-      let z = gone .sizes in
-      let n = L .rel .total in
-      let m = L .rel .small in
-      let c : length (freedBy u d) ≤ 128 = omega arith in
-      take-all 128 (freedBy u d) c
+  whole-order = refl
 
   -- each slot freed had a node that leaves
   pub the-slots-freed-are-those-that-leave : (j : ℕ) → occ j (freedBy u d) + cnt j (cutOf d t) ≡ cnt j t

@@ -12,7 +12,7 @@ use Rattle.text.specs.Reader.{leadOf, stepOf, runFrom, isUtf8, scalarsFrom, sca
 use Rattle.text.specs.Steps.{backOf, front, stepBack, stepForward}
 use Rattle.field.specs.Fields.{emptyField, inRange, fieldOk, moved, cutOut, putIn, stepBackOf, stepForwardOf, editedIn, edited, inserted, editAnswer, insertAnswer, shownOf, textOf, withText}
 use Rattle.tree.specs.Trees.{withNodes, withStyles, withPool, withStated, withFields, withPass, withInteraction, withWaiting}
-use Rattle.arena.specs.Slots.{at, put, change, isLive, chain, chainBack, kidsAt, order, linkAfter, linkLast, unlinkFrom, unlink, freeOrder, freeing, nextGeneration, freed, newSlot, newSlots}
+use Rattle.arena.specs.Slots.{at, put, change, isLive, chain, kidsAt, order, linkAfter, linkLast, unlinkFrom, unlink, freeOrder, freeing, nextGeneration, freed, newSlot, newSlots}
 use Rattle.arena.specs.Styles.{layoutAt, stateAt}
 use Rattle.arena.specs.States.{entryOf, patchStyle, touches, inPool, wear, bitsOf, wearAll, bearing, bared, bareAll, resetStates}
 use Rattle.tree.specs.Wearing.{bitsAt, refreshed, styledAt, tabledAt}
@@ -23,7 +23,7 @@ use Rattle.tree.specs.Calls.{guarded, onLive, fresh, newTree, insertAt, 
 
 -- The definitions that a run computes with: to unfold this one is to unfold them all.
 computing : Unit {0}
-unfolding stop addSat subSat gapTimes maxOf unsignedOf within isScalar allScalars encoded encodedAll encodedAs leadOf stepOf runFrom isUtf8 scalarsFrom scalars backOf front stepBack stepForward emptyField inRange fieldOk moved cutOut putIn stepBackOf stepForwardOf editedIn edited inserted editAnswer insertAnswer shownOf textOf withText same δ withNodes withStyles withPool withStated withFields withPass withInteraction withWaiting at put change isLive chain chainBack kidsAt order linkAfter linkLast unlinkFrom unlink freeOrder freeing nextGeneration freed layoutAt stateAt entryOf patchStyle touches inPool wear bitsOf bitsAt wearAll bearing refreshed styledAt tabledAt bared bareAll fieldOf reclaimed claimed kidsWell nodeWell freeWell eachOnce linksWell linked stateWell distinct ownersWell broken guarded onLive newSlot newSlots fresh newTree insertAt insert resetStates removeAt remove setStyle setStateTable pooled setPatchPool makeField onField fieldText fieldCursor solve rect live firstChild nextSibling
+unfolding stop addSat subSat gapTimes maxOf unsignedOf within isScalar allScalars encoded encodedAll encodedAs leadOf stepOf runFrom isUtf8 scalarsFrom scalars backOf front stepBack stepForward emptyField inRange fieldOk moved cutOut putIn stepBackOf stepForwardOf editedIn edited inserted editAnswer insertAnswer shownOf textOf withText same δ withNodes withStyles withPool withStated withFields withPass withInteraction withWaiting at put change isLive chain kidsAt order linkAfter linkLast unlinkFrom unlink freeOrder freeing nextGeneration freed layoutAt stateAt entryOf patchStyle touches inPool wear bitsOf bitsAt wearAll bearing refreshed styledAt tabledAt bared bareAll fieldOf reclaimed claimed kidsWell nodeWell freeWell eachOnce linksWell linked stateWell distinct ownersWell broken guarded onLive newSlot newSlots fresh newTree insertAt insert resetStates removeAt remove setStyle setStateTable pooled setPatchPool makeField onField fieldText fieldCursor solve rect live firstChild nextSibling
 computing = tt
 
 -- The node of a slot in its g-th use.

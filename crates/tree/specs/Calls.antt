@@ -24,6 +24,7 @@ use Rattle.arena.specs.Fields.{fieldOf, vacant, reclaimed, claimed, firstField,
 use Rattle.tree.specs.Trees.{limitOf, withNodes, withStyles, withPool, withFields, withPass}
 use Rattle.tree.specs.Broken.{broken}
 use Rattle.tree.specs.declared.Ui.{Ui}
+use Rattle.arena.specs.declared.Slot.{Slot}
 use Rattle.arena.specs.declared.Style.{Style}
 use Rattle.arena.specs.declared.Rect.{Rect}
 use Rattle.arena.specs.declared.StatePatch.{StatePatch}
@@ -86,11 +87,13 @@ insert u parent =
     onLive u parent nobody
     (cond (same (u .free) NIL) (refuses u Full nobody) (gives (insertAt u (parent .index)) (idAt (u .slots) (u .free))))
 
+-- Other slots, of which those of a list are freed; their state slots are as new.
+abbrev pub withFreed : Ui → List Slot → List ℕ → Ui
+withFreed u s o = withNodes u (freed s (u .free) o) (u .layout) (resetStates (u .states) o) (finalOr (u .free) o) (u .live - length o)
+
+-- Slot i leaves its parent's children, and it and all below it are freed.
 unfoldable pub removeAt : Ui → ℕ → Ui
-removeAt u i =
-    let s = unlink (u .slots) i in
-    let o = freeing s i in
-    withNodes u (freed s (u .free) o) (u .layout) (resetStates (u .states) o) (finalOr (u .free) o) (u .live - length o)
+removeAt u i = let s = unlink (u .slots) i in withFreed u s (freeing s i)
 
 unfoldable pub remove : Ui → NodeId → Outcome ℕ
 remove u d = onLive u d 0 (cond (same (d .index) 0) (refuses u Root 0) (gives (removeAt u (d .index)) 0))

@@ -5,6 +5,7 @@ pub mod Input
 pub mod Broken
 pub mod Calls
 pub mod Answers
+pub mod WholeTrees
 -- what arena defines, under the tree's name
 pub use Rattle.arena.specs.Slots
 pub use Rattle.arena.specs.Styles
@@ -15,6 +16,7 @@ pub use Rattle.arena.specs.Hit
 pub use Rattle.arena.specs.Fields
 pub use Rattle.arena.specs.Rules
 pub use Rattle.arena.specs.Forest
+pub use Rattle.arena.specs.Spelled
 pub use Rattle.arena.specs.Nodes
 pub use Rattle.arena.specs.History
 pub use Rattle.arena.specs.Support.Places

@@ -4,7 +4,7 @@ pub mod input;
 mod nodes;
 pub mod rules;
 mod start;
-pub mod wearing;
+mod wearing;
 
 ghost use mathlib.Core.Path.{_≡_};
 ghost use Rattle.tree.specs.Answers.{precheck, fieldPlace, changedOf, insertedOf, rectOf, livenessOf, neighbourOf, fieldTextOf, caretAnswer};

@@ -2,12 +2,13 @@
 ghost use mathlib.Core.Bool.{cond};
 ghost use mathlib.Core.Path.{_≡_};
 ghost use Prim.Native.Nat.{_≤_, _<_};
-ghost use Rattle.arena.specs.Slots.{idAt, NIL};
+ghost use Rattle.arena.specs.Slots.{idAt, unlink, NIL};
+ghost use Rattle.arena.specs.Support.Lists.{walked};
 ghost use Rattle.arithmetic.specs.Tests.{same};
 ghost use Rattle.field.specs.declared.MaybeId.the-variants.{Absent, Present};
 ghost use Rattle.text.specs.Refusal.{accepted};
 ghost use Rattle.tree.specs.Answers.{neighbourOf};
-ghost use Rattle.tree.specs.Calls.{insertAt, removeAt};
+ghost use Rattle.tree.specs.Calls.{insertAt, withFreed};
 use crate::Slot;
 use crate::Ui;
 use crate::answers::Neighbour;
@@ -39,9 +40,9 @@ pub(crate) fn insert_at(u: Ui, parent: u32) -> Ui
     out
 }
 
-// Slot `index` and all below it leave the tree; their state slots are as new.
+// Slot `index` and all below it leave the tree, as far as the list of 128 goes; their state slots are as new.
 pub(crate) fn remove_at(mut u: Ui, index: u32) -> Ui
-    ensures { λ r. ⌜ r ≡ removeAt u index ⌝ }
+    ensures { λ r. ⌜ r ≡ withFreed u (unlink (u .slots) index) (walked (unlink (u .slots) index) index) ⌝ }
 {
     let slots = u.slots;
     let states = u.states;

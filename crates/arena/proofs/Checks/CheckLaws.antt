@@ -8,7 +8,7 @@ use lib.ListN.{length, getD}
 use lib.Dec.{eqb}
 use Rattle.arithmetic.specs.Tests.{same, headOr, fromTo, all}
 use Rattle.arena.specs.Slots.{NIL, Slots, at, chain, order}
-use Rattle.arena.specs.Rules.{aliveness, once, nodeWell, freeWell, eachOnce, linked}
+use Rattle.arena.specs.Rules.{aliveness, once, nodeWell, freeWell, eachOnce, rootWell, linked}
 use Rattle.arena.specs.Support.Lists.{Tallied}
 
 -- ---- a test of every number below a limit
@@ -36,7 +36,7 @@ once-counted s r f a b i p q h = rw (p i h, q i h)
 -- ---- all link rules
 pub links-whole : (n : ℕ) (s : Slots) (head live : ℕ) {r f : List ℕ} {root each nodes chained : Bool} {c : ℕ}
     → r ≡ order 128 s (0 ∷ []) → f ≡ chain 128 s head
-    → root ≡ (at s 0 .live && (same (at s 0 .parent) NIL && (same (at s 0 .«prev_sibling») NIL && same (at s 0 .«next_sibling») NIL)))
+    → root ≡ rootWell s
     → each ≡ eachOnce n s r f → nodes ≡ all (nodeWell s) (order 128 s (0 ∷ []))
     → chained ≡ (same head (headOr NIL (chain 128 s head)) && freeWell s (chain 128 s head)) → c ≡ length r
     → (root && (each && (nodes && (chained && eqb live c)))) ≡ linked n s head live
@@ -45,5 +45,5 @@ links-whole n s head live r e root each nodes chained c =
     let l = order 128 s (0 ∷ []) in
     let m = chain 128 s head in
     rw (root, each, nodes, chained, c, r, e)
-    (ap (λ (b : Bool). (at s 0 .live && (eqb (at s 0 .parent) NIL && (eqb (at s 0 .«prev_sibling») NIL && eqb (at s 0 .«next_sibling») NIL))) && (eachOnce n s l m && (all (nodeWell s) l && b)))
+    (ap (λ (b : Bool). rootWell s && (eachOnce n s l m && (all (nodeWell s) l && b)))
     (and-assoc (eqb head (headOr NIL m)) (freeWell s m) (eqb live (length l))))

@@ -12,11 +12,11 @@ use lib.ListN.{length}
 use Rattle.arithmetic.specs.Tests.{same, δ, occ, headOr, finalOr, fromTo, all}
 use Rattle.arena.specs.Forest.{Forest, nil, node, app, size}
 use Rattle.arena.specs.Slots.{NIL, Slots, at, used, chain, kidsAt, order}
-use Rattle.arena.specs.Rules.{aliveness, kidsWell, nodeWell, freeWell, once, eachOnce, linked}
+use Rattle.arena.specs.Rules.{aliveness, kidsWell, nodeWell, freeWell, once, eachOnce, rootWell, linked}
 use Rattle.arena.specs.declared.Slot.{Slot}
-use Rattle.arithmetic.proofs.TestLaws.{same-refl, δ-refl, δ-same, δ-other, δ-le, eq-cases, zero-cases, bool-cases}
-use Rattle.arena.proofs.Styles.GeometryLaws.{no-more, both, same-is}
-use Rattle.arena.proofs.Forests.ForestLaws.{firstOr, lastOr, cnt, top, cnt-app, size-app}
+use Rattle.arithmetic.proofs.TestLaws.{δ-refl, δ-same, δ-other, δ-le, eq-cases, zero-cases, bool-cases}
+use Rattle.arena.proofs.Styles.GeometryLaws.{both, same-is}
+use Rattle.arena.proofs.Forests.ForestLaws.{firstOr, lastOr, cnt, cnt-app, size-app}
 use Rattle.arena.proofs.Forests.Segments.{SegR}
 use Rattle.arena.proofs.Forests.Relations.{Rel, FreeR}
 use Rattle.arena.proofs.Forests.Orders.{tops, occ-tops}
@@ -304,8 +304,7 @@ shared-parts n s reached free e =
       λ j h. ltb-true j n (each-that-occurs (λ (i : ℕ). ltb i n) free (b .1) j h),
     )
 
-root-parts : (s : Slots) → (at s 0 .live && (same (at s 0 .parent) NIL && (same (at s 0 .«prev_sibling») NIL && same (at s 0 .«next_sibling») NIL))) ≡ true
-    → kidsWell s NIL NIL (0 ∷ []) ≡ true
+root-parts : (s : Slots) → rootWell s ≡ true → kidsWell s NIL NIL (0 ∷ []) ≡ true
 unfolding kidsWell
 root-parts s e = let a = both (at s 0 .live) (same (at s 0 .parent) NIL && (same (at s 0 .«prev_sibling») NIL && same (at s 0 .«next_sibling») NIL)) e in rw (a .1)
 
@@ -314,8 +313,7 @@ unfolding linked
 link-parts n s head live e =
     let reached : List ℕ = order 128 s (0 ∷ []) in
     let free : List ℕ = chain 128 s head in
-    let r : Bool = at s 0 .live && (same (at s 0 .parent) NIL && (same (at s 0 .«prev_sibling») NIL && same (at s 0 .«next_sibling») NIL)) in
-    let a = both r (eachOnce n s reached free && (all (nodeWell s) reached && (same head (headOr NIL free) && (freeWell s free && same live (length reached))))) e in
+    let a = both (rootWell s) (eachOnce n s reached free && (all (nodeWell s) reached && (same head (headOr NIL free) && (freeWell s free && same live (length reached))))) e in
     let b = both (eachOnce n s reached free) (all (nodeWell s) reached && (same head (headOr NIL free) && (freeWell s free && same live (length reached)))) (a .1) in
     let c = both (all (nodeWell s) reached) (same head (headOr NIL free) && (freeWell s free && same live (length reached))) (b .1) in
     let d = both (same head (headOr NIL free)) (freeWell s free && same live (length reached)) (c .1) in

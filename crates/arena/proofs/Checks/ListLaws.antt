@@ -11,9 +11,9 @@ use borrow.Author.Tests.{ltb-true, ltb-false, lt-ltb, le-ltb}
 use Rattle.arithmetic.proofs.TestLaws.{bool-cases}
 use Rattle.arena.specs.declared.Slot.{Slot}
 use Rattle.arena.specs.declared.links.Order.{Order}
-use Rattle.arena.specs.Slots.{Slots, noSlot, at, put, idle, chainBack, joined, freeOrder, nextGeneration, freed}
+use Rattle.arena.specs.Slots.{Slots, noSlot, at, put, idle, joined, nextGeneration, freed}
 use Rattle.arithmetic.specs.Tests.{finalOr}
-use Rattle.arena.specs.Support.Lists.{listed, orderOf, noneListed, added, addedAll, LinksOf}
+use Rattle.arena.specs.Support.Lists.{listed, orderOf, noneListed, added, addedAll, LinksOf, chainBack, backOrder}
 
 -- cases on an order of two numbers, for any goal
 pub lt-cases : {G : Type 0} (i j : ℕ) → (i < j → G) → (j ≤ i → G) → G
@@ -57,14 +57,14 @@ module _ (s : Slots) (f : ℕ → List ℕ) where
   children-done (suc n) o c q = absurd (omega arith)
 
 -- ---- the order of freeing
-pub free-order-none : (d : ℕ) (s : Slots) (o : Order) (i : ℕ) → d ≡ 0 → o ≡ addedAll o (freeOrder d s i)
-unfolding freeOrder addedAll
-free-order-none d s o i h = rw h
+pub back-order-none : (d : ℕ) (s : Slots) (o : Order) (i : ℕ) → d ≡ 0 → o ≡ addedAll o (backOrder d s i)
+unfolding backOrder addedAll
+back-order-none d s o i h = rw h
 
-pub free-order-whole : (d : ℕ) (s : Slots) (o : Order) (i : ℕ) {out : Order} {c : ℕ} → (d ≡ 0 → ⊥) → out ≡ added o i → c ≡ at s i .«last_child» → addedAll out (joined (freeOrder (d - 1) s) (chainBack 128 s c)) ≡ addedAll o (freeOrder d s i)
-unfolding freeOrder addedAll
-free-order-whole zero s o i h p q = absurd (h refl)
-free-order-whole (suc d) s o i h p q = rw (sub-one, p, q)
+pub back-order-whole : (d : ℕ) (s : Slots) (o : Order) (i : ℕ) {out : Order} {c : ℕ} → (d ≡ 0 → ⊥) → out ≡ added o i → c ≡ at s i .«last_child» → addedAll out (joined (backOrder (d - 1) s) (chainBack 128 s c)) ≡ addedAll o (backOrder d s i)
+unfolding backOrder addedAll
+back-order-whole zero s o i h p q = absurd (h refl)
+back-order-whole (suc d) s o i h p q = rw (sub-one, p, q)
 
 -- ---- what is listed
 -- the array holds 128, and the count is no more

@@ -12,7 +12,7 @@ use lib.ListN.{length}
 use Rattle.arithmetic.specs.Tests.{same, occ, headOr, finalOr, fromTo, all}
 use Rattle.arena.specs.Forest.{Forest, nil, node, size}
 use Rattle.arena.specs.Slots.{NIL, Slots, at, used, chain, order}
-use Rattle.arena.specs.Rules.{aliveness, kidsWell, nodeWell, freeWell, eachOnce, linked}
+use Rattle.arena.specs.Rules.{aliveness, kidsWell, nodeWell, freeWell, eachOnce, rootWell, linked}
 use Rattle.arena.specs.declared.Slot.{Slot}
 use Rattle.arithmetic.proofs.TestLaws.{same-yes, same-refl, δ-refl, zero-cases}
 use Rattle.arena.proofs.Forests.ForestLaws.{firstOr, lastOr, cnt, kids}
@@ -126,7 +126,7 @@ module _ {X : Type 0} {n : ℕ} {s : Slots} {free : ℕ} {t : Forest X} {fl : Li
       let q : SegR s NIL NIL (node 0 (R .gen) (R .load) (R .below) nil) NIL = subst (λ (f : Forest X). SegR s NIL NIL f NIL) (R .whole) (r .links) in
       rw (q .0)
 
-  root-well : (at s 0 .live && (same (at s 0 .parent) NIL && (same (at s 0 .«prev_sibling») NIL && same (at s 0 .«next_sibling») NIL))) ≡ true
+  root-well : rootWell s ≡ true
   root-well = rw (root-slot, same-refl NIL)
 
 module _ {X : Type 0} where
@@ -138,7 +138,7 @@ module _ {X : Type 0} where
       let c : chain 128 s free ≡ fl = free-chain-of-the-tree r in
       subst
       (λ (l : List ℕ).
-      ((at s 0 .live && (same (at s 0 .parent) NIL && (same (at s 0 .«prev_sibling») NIL && same (at s 0 .«next_sibling») NIL)))
+      (rootWell s
       && (eachOnce n s o l && (all (nodeWell s) o && (same free (headOr NIL l) && (freeWell s l && same live (length o)))))) ≡ true)
       (sym c)
       (rw (root-well r, each-slot-once r, nodes-reached-are-well r, same-yes free (headOr NIL fl) (r .head), free-well s fl (r .frees))

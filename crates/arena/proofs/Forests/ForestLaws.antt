@@ -7,30 +7,9 @@ use native.Mathlib.Omega.{arith}
 use Rattle.arithmetic.specs.Tests.{same, δ}
 use Rattle.arena.specs.Forest.{Forest, nil, node, app, size}
 use Rattle.arithmetic.proofs.TestLaws.{eq-cases, zero-cases}
+pub use Rattle.arena.specs.Spelled.{firstOr, lastOr, wt, cnt, top}
 
 module _ {X : Type 0} where
-  abbrev pub firstOr : ℕ → Forest X → ℕ
-  firstOr d nil = d
-  firstOr d (node i g x cs sib) = i
-
-  abbrev pub lastOr : ℕ → Forest X → ℕ
-  lastOr d nil = d
-  lastOr d (node i g x cs sib) = lastOr i sib
-
-  -- a sum over all nodes
-  abbrev pub wt : (ℕ → ℕ → X → ℕ) → Forest X → ℕ
-  wt w nil = 0
-  wt w (node i g x cs sib) = w i g x + (wt w cs + wt w sib)
-
-  -- how often the index j occurs
-  abbrev pub cnt : ℕ → Forest X → ℕ
-  cnt j f = wt (λ i g x. δ i j) f
-
-  -- the same among the topmost nodes
-  abbrev pub top : ℕ → Forest X → ℕ
-  top j nil = 0
-  top j (node i g x cs sib) = δ i j + top j sib
-
   abbrev pub kids : ℕ → Forest X → Forest X
   kids p nil = nil
   kids p (node i g x cs sib) = app (cond (same i p) cs (kids p cs)) (kids p sib)

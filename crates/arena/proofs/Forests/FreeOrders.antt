@@ -9,13 +9,14 @@ use borrow.Author.Tests.{lt-ltb}
 use lib.ListN.{length, length-append}
 use Rattle.arithmetic.specs.Tests.{occ, headOr, finalOr}
 use Rattle.arena.specs.Forest.{Forest, nil, node, size}
-use Rattle.arena.specs.Slots.{NIL, Slots, at, put, idle, chainBack, joined, freeOrder, nextGeneration, freed}
+use Rattle.arena.specs.Slots.{NIL, Slots, at, put, idle, kidsAt, joined, backwards, freeOrder, nextGeneration, freed}
+use Rattle.arena.specs.Support.Lists.{chainBack, backOrder}
 use Rattle.arena.specs.declared.Slot.{Slot}
 use Rattle.arithmetic.proofs.TestLaws.{δ-refl, δ-same, eq-cases}
-use Rattle.arena.proofs.Forests.ForestLaws.{lastOr, cnt}
+use Rattle.arena.proofs.Forests.ForestLaws.{firstOr, lastOr, cnt}
 use Rattle.arena.proofs.Forests.Segments.{len-put, at-put, at-other, SegR}
 use Rattle.arena.proofs.Forests.Relations.{FreeR, free-frame}
-use Rattle.arena.proofs.Forests.Orders.{InRange, tops, tops-size}
+use Rattle.arena.proofs.Forests.Orders.{InRange, tops, tops-size, kids-tops}
 
 -- ---- lists
 
@@ -26,6 +27,10 @@ occ-append j (i ∷ is) m = let h = occ-append j is m in omega arith
 joined-append : (f : ℕ → List ℕ) (l m : List ℕ) → joined f (l ++ m) ≡ joined f l ++ joined f m
 joined-append f [] m = refl
 joined-append f (i ∷ is) m = rw (joined-append f is m) (sym (append-assoc (f i) (joined f is) (joined f m)))
+
+joined-behind : (f g : ℕ → List ℕ) (l : List ℕ) (i : ℕ) → joined f l ≡ joined g l → f i ≡ g i → joined f (l ++ (i ∷ [])) ≡ joined g (l ++ (i ∷ []))
+joined-behind f g l i e h =
+    joined-append f l (i ∷ []) ∙ ap (λ (m : List ℕ). m ++ (f i ++ [])) e ∙ ap (λ (m : List ℕ). joined g l ++ (m ++ [])) h ∙ sym (joined-append g l (i ∷ []))
 
 -- the free chain after slots are freed in an order
 abbrev pub pushed : List ℕ → List ℕ → List ℕ
@@ -114,8 +119,7 @@ module _ {X : Type 0} where
 
   -- the topmost nodes, last first
   abbrev pub topsBack : Forest X → List ℕ
-  topsBack nil = []
-  topsBack (node i g x cs sib) = topsBack sib ++ (i ∷ [])
+  topsBack f = backwards (tops f)
 
   pub occ-last-first : (j : ℕ) (f : Forest X) → occ j (lastFirst f) ≡ cnt j f
   occ-last-first j nil = refl
@@ -151,16 +155,39 @@ module _ {X : Type 0} where
   free-orders nil d a par pv nx r z h k = refl
   free-orders (node i g x cs sib) zero a par pv nx r z h k = absurd (omega arith)
   free-orders (node i g x cs sib) (suc d) a par pv nx r z h k =
-      let v : at a i .«last_child» ≡ lastOr NIL cs = ap (λ (s : Slot). s .«last_child») (r .0) in
-      let b : chainBack 128 a (at a i .«last_child») ≡ topsBack cs = ap (chainBack 128 a) v ∙ chain-back-tops a cs i NIL (r .1) (λ j c. z j (omega arith)) (omega arith) in
+      let b : kidsAt a i ≡ tops cs = kids-tops a i cs (ap (λ (s : Slot). s .«first_child») (r .0)) (r .1) (λ j c. z j (omega arith)) (omega arith) in
       let I = free-orders cs d a i NIL NIL (r .1) (λ j c. z j (omega arith)) (omega arith) (omega arith) in
       let J = free-orders sib (suc d) a par i nx (r .2) (λ j c. z j (omega arith)) (omega arith) (omega arith) in
       joined-append (freeOrder (suc d) a) (topsBack sib) (i ∷ [])
       ∙ rw (J, b, I) (ap (λ (l : List ℕ). lastFirst sib ++ l) (append-nil (i ∷ lastFirst cs)))
 
   -- the node, then all below it
-  pub free-order-of-a-tree : (d : ℕ) (a : Slots) (i : ℕ) (cs : Forest X) → at a i .«last_child» ≡ lastOr NIL cs → SegR a i NIL cs NIL → InRange cs → size cs ≤ 128 → size cs ≤ d
+  pub free-order-of-a-tree : (d : ℕ) (a : Slots) (i : ℕ) (cs : Forest X) → at a i .«first_child» ≡ firstOr NIL cs → SegR a i NIL cs NIL → InRange cs → size cs ≤ 128 → size cs ≤ d
       → freeOrder (suc d) a i ≡ i ∷ lastFirst cs
   unfolding freeOrder
   free-order-of-a-tree d a i cs e r z h k =
-      ap (λ (l : List ℕ). i ∷ l) (ap (λ (c : ℕ). joined (freeOrder d a) (chainBack 128 a c)) e ∙ ap (joined (freeOrder d a)) (chain-back-tops a cs i NIL r z h) ∙ free-orders cs d a i NIL NIL r z h k)
+      ap (λ (l : List ℕ). i ∷ l) (ap (λ (l : List ℕ). joined (freeOrder d a) (backwards l)) (kids-tops a i cs e r z h) ∙ free-orders cs d a i NIL NIL r z h k)
+
+  -- ---- the walk by previous links lists the same
+
+  back-step : (d : ℕ) (a : Slots) (i : ℕ) (cs : Forest X) → at a i .«first_child» ≡ firstOr NIL cs → at a i .«last_child» ≡ lastOr NIL cs → SegR a i NIL cs NIL → InRange cs → size cs ≤ 128
+      → joined (backOrder d a) (topsBack cs) ≡ joined (freeOrder d a) (topsBack cs) → backOrder (suc d) a i ≡ freeOrder (suc d) a i
+  unfolding freeOrder backOrder
+  back-step d a i cs e l r z h I =
+      ap (λ (m : List ℕ). i ∷ m)
+      (ap (λ (c : ℕ). joined (backOrder d a) (chainBack 128 a c)) l ∙ ap (joined (backOrder d a)) (chain-back-tops a cs i NIL r z h) ∙ I
+      ∙ ap (λ (m : List ℕ). joined (freeOrder d a) (backwards m)) (sym (kids-tops a i cs e r z h)))
+
+  back-orders : (f : Forest X) (d : ℕ) (a : Slots) (par pv nx : ℕ) → SegR a par pv f nx → InRange f → size f ≤ 128 → joined (backOrder d a) (topsBack f) ≡ joined (freeOrder d a) (topsBack f)
+  unfolding freeOrder backOrder
+  back-orders nil d a par pv nx r z h = refl
+  back-orders (node i g x cs sib) zero a par pv nx r z h =
+      joined-behind (backOrder zero a) (freeOrder zero a) (topsBack sib) i (back-orders sib zero a par i nx (r .2) (λ j c. z j (omega arith)) (omega arith)) refl
+  back-orders (node i g x cs sib) (suc d) a par pv nx r z h =
+      joined-behind (backOrder (suc d) a) (freeOrder (suc d) a) (topsBack sib) i (back-orders sib (suc d) a par i nx (r .2) (λ j c. z j (omega arith)) (omega arith))
+      (back-step d a i cs (ap (λ (s : Slot). s .«first_child») (r .0)) (ap (λ (s : Slot). s .«last_child») (r .0)) (r .1) (λ j c. z j (omega arith)) (omega arith)
+      (back-orders cs d a i NIL NIL (r .1) (λ j c. z j (omega arith)) (omega arith)))
+
+  pub the-walk-back-lists-the-order : (d : ℕ) (a : Slots) (i : ℕ) (cs : Forest X) → at a i .«first_child» ≡ firstOr NIL cs → at a i .«last_child» ≡ lastOr NIL cs → SegR a i NIL cs NIL → InRange cs → size cs ≤ 128
+      → backOrder (suc d) a i ≡ freeOrder (suc d) a i
+  the-walk-back-lists-the-order d a i cs e l r z h = back-step d a i cs e l r z h (back-orders cs d a i NIL NIL r z h)

@@ -6,17 +6,19 @@ use mathlib.Core.Logic.{_≢_}
 use mathlib.Core.List.{List}
 use Prim.Native.Nat.{ℕ, _+_, _≤_, _<_}
 use native.Mathlib.Omega.{arith}
-use lib.ListN.{length}
+use lib.ListN.{length, take}
+use lib.Seq.{take-all}
 use Rattle.arithmetic.specs.Tests.{same, δ, occ, finalOr}
 use Rattle.arena.specs.Forest.{Forest, nil, node, app, size}
 use Rattle.arena.specs.Slots.{NIL, Slots, at, used, change, setFirst, setLast, setPrev, setNext, unlinkFrom, unlink, freeOrder, nextGeneration, freed}
+use Rattle.arena.specs.Support.Lists.{walked}
 use Rattle.arena.specs.declared.Slot.{Slot}
 use Rattle.arithmetic.proofs.TestLaws.{same-no, same-refl, δ-refl, δ-other, δ-ne, eq-cases, zero-cases}
 use Rattle.arena.proofs.Forests.ForestLaws.{firstOr, lastOr, cnt, top, kids, setKids, cut, cut-app, cut-set, split, cnt-app, lastOr-app, top-le-cnt, wt, wt-set, wt-rest, wt-app, top-set, own-kids, ne-by, size-is-a-sum}
 use Rattle.arena.proofs.Forests.Segments.{SegR, seg-frame, seg-join, seg-cut, seg-set, seg-find, seg-next′, seg-prev′, last-count, first-count, last-in, Found, seg-parent, not-last, not-first}
 use Rattle.arena.proofs.Forests.Relations.{Rel, once, below, FreeR, free-frame}
 use Rattle.arena.proofs.Forests.SlotChanges.{genOf, len-change, at-change, change-other, change-keep}
-use Rattle.arena.proofs.Forests.FreeOrders.{lastFirst, occ-last-first, length-last-first, free-order-of-a-tree, pushed, occ-pushed, length-pushed, head-pushed, freed-length, freed-other, freed-slot, freed-chain, aged-suc}
+use Rattle.arena.proofs.Forests.FreeOrders.{lastFirst, occ-last-first, length-last-first, free-order-of-a-tree, the-walk-back-lists-the-order, pushed, occ-pushed, length-pushed, head-pushed, freed-length, freed-other, freed-slot, freed-chain, aged-suc}
 
 -- what the unlinking does to each slot
 pub record Unlinked (a b : Slots) (p pv nx : ℕ) : Type 0 where
@@ -176,7 +178,20 @@ module _ {X : Type 0} (n : ℕ) (a : Slots) (free : ℕ) (t : Forest X) (fl : Li
       let sm = r .small in
       let z1 = size-is-a-sum t in
       let z2 = size-is-a-sum b in
-      free-order-of-a-tree 127 B i b (ap (λ (q : Slot). q .«last_child») atI) segB (λ j c. let h = in-n j (omega arith) in omega arith) (omega arith) (omega arith)
+      free-order-of-a-tree 127 B i b (ap (λ (q : Slot). q .«first_child») atI) segB (λ j c. let h = in-n j (omega arith) in omega arith) (omega arith) (omega arith)
+
+  -- the walk by previous links lists all of it
+  is-walked : walked B i ≡ lastFirst Z
+  unfolding walked
+  is-walked =
+      let s = share (λ k g x. 1) in
+      let T = r .total in
+      let sm = r .small in
+      let z1 = size-is-a-sum t in
+      let z2 = size-is-a-sum b in
+      let o = length-last-first Z in
+      let w = the-walk-back-lists-the-order 127 B i b (ap (λ (q : Slot). q .«first_child») atI) (ap (λ (q : Slot). q .«last_child») atI) segB (λ j c. let h = in-n j (omega arith) in omega arith) (omega arith) in
+      ap (take 128) (w ∙ is-order) ∙ take-all 128 (lastFirst Z) (omega arith)
 
   gens : (j : ℕ) → at a j .generation < 18446744073709551615 → at (freed B free (lastFirst Z)) j .generation ≡ at a j .generation + cnt j Z
   unfolding B
@@ -236,6 +251,7 @@ module _ {X : Type 0} where
   pub record Removed (n : ℕ) (s : Slots) (free : ℕ) (t : Forest X) (fl : List ℕ) (i : ℕ) : Type 0 where
     pub part : Forest X
     pub part-order : freeOrder 128 (unlink s i) i ≡ lastFirst part
+    pub part-walked : walked (unlink s i) i ≡ freeOrder 128 (unlink s i) i
     pub rel : Rel n (freed (unlink s i) free (freeOrder 128 (unlink s i) i)) (finalOr free (freeOrder 128 (unlink s i) i)) (cut i t) (pushed (freeOrder 128 (unlink s i) i) fl)
     pub part-sums : (v : ℕ → ℕ → X → ℕ) → wt v t ≡ wt v (cut i t) + wt v part
     pub order-counts : (j : ℕ) → occ j (freeOrder 128 (unlink s i) i) + cnt j (cut i t) ≡ cnt j t
@@ -268,6 +284,7 @@ module _ {X : Type 0} where
       record {
         part = P;
         part-order = rw (eu, eo);
+        part-walked = rw (eu, eo) (is-walked n a free t fl i r p cp (s .pre) (s .gen) (s .load) (s .below) (s .post) (s .whole));
         rel = rw (eu, eo, e) (rel-after n a free t fl i r p cp (s .pre) (s .gen) (s .load) (s .below) (s .post) (s .whole));
         part-sums = λ v. rw e (sums v);
         order-counts = λ j. let h = sums (λ k g x. δ k j) in let o = occ-last-first j P in rw (eu, eo, e) (omega arith);

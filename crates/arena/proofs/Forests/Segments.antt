@@ -1,4 +1,5 @@
--- What it is that slots hold a forest: a doubly linked segment for the topmost nodes, and one for each node's children. Assumes nothing.
+-- Slots that hold a forest: a doubly linked segment for the topmost nodes, and one for each node's children. Assumes nothing.
+pub use Rattle.arena.specs.Spelled.{SegR}
 use mathlib.Core.Path.{_≡_, refl, sym, ap, _∙_}
 use mathlib.Core.Logic.{_≢_}
 use mathlib.Core.Bool.{true}
@@ -38,12 +39,6 @@ live-in a i h = go (decLt i (length a))
         absurd (omega arith)
 
 module _ {X : Type 0} where
-  -- the slots of `a` hold the forest's nodes, whose parent is `par`, with `pv` before the first and `nx` after the last
-  abbrev pub SegR : Slots → ℕ → ℕ → Forest X → ℕ → Type 0
-  SegR a par pv nil nx = Unit {0}
-  SegR a par pv (node i g x cs sib) nx =
-      (at a i ≡ used g par (firstOr NIL cs) (lastOr NIL cs) pv (firstOr nx sib)) × SegR a i NIL cs NIL × SegR a par i sib nx
-
   -- frame: only the forest's own slots count
   pub seg-frame : (a b : Slots) (f : Forest X) (par pv nx : ℕ) → ((j : ℕ) → 0 < cnt j f → at b j ≡ at a j) → SegR a par pv f nx → SegR b par pv f nx
   seg-frame a b nil par pv nx h r = tt

@@ -1,8 +1,8 @@
 -- A list of slots kept in an array of 128 with a count.
 use Rattle.arena.specs.declared.Slot.{Slot}
-use Rattle.arena.specs.Slots.{Slots, at}
+use Rattle.arena.specs.Slots.{Slots, at, joined}
 use mathlib.Core.Bool.{cond}
-use Prim.Native.Nat.{ℕ, _+_, _<_}
+use Prim.Native.Nat.{ℕ, zero, suc, _+_, _<_}
 use mathlib.Core.Path.{_≡_}
 use mathlib.Core.List.{List, [], _∷_}
 use lib.Dec.{ltb}
@@ -42,3 +42,17 @@ Tallied times l = (j : ℕ) → j < 128 → getD times j 0 ≡ occ j l
 -- The list has one link of each slot.
 abbrev pub LinksOf : Slots → (Slot → ℕ) → List ℕ → Type 0
 LinksOf s f l = (i : ℕ) → getD l i 0 ≡ f (at s i)
+
+-- The slots from c on by previous links: at most k, up to an index that is no slot.
+unfoldable pub chainBack : ℕ → Slots → ℕ → List ℕ
+chainBack zero s c = []
+chainBack (suc k) s c = cond (ltb c 128) (c ∷ chainBack k s (at s c .«prev_sibling»)) []
+
+-- The order of freeing as the code walks it: from the last child on by previous links.
+unfoldable pub backOrder : ℕ → Slots → ℕ → List ℕ
+backOrder zero s i = []
+backOrder (suc d) s i = i ∷ joined (backOrder d s) (chainBack 128 s (at s i .«last_child»))
+
+-- As much of it as the array holds.
+unfoldable pub walked : Slots → ℕ → List ℕ
+walked s i = take 128 (backOrder 128 s i)

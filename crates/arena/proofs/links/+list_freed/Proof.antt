@@ -1,7 +1,7 @@
 -- The walk and the definition fall together in depth; what is left of the children lists the rest. Assumes nothing.
-use Rattle.arena.proofs.Checks.ListLaws.{added-full, added-where-there-is-room, children-more, children-end, children-done, free-order-none, free-order-whole}
-use Rattle.arena.specs.Support.Lists.{addedAll, orderOf, LinksOf}
-use Rattle.arena.specs.Slots.{Slots, chainBack, joined, freeOrder}
+use Rattle.arena.proofs.Checks.ListLaws.{added-full, added-where-there-is-room, children-more, children-end, children-done, back-order-none, back-order-whole}
+use Rattle.arena.specs.Support.Lists.{addedAll, orderOf, LinksOf, chainBack, backOrder}
+use Rattle.arena.specs.Slots.{Slots, joined}
 use Rattle.arena.specs.declared.Slot.{Slot}
 use mathlib.Core.Path.{_≡_, refl, sym, _∙_}
 use borrow.Author.Needs.{needs}
@@ -27,7 +27,7 @@ list-freed-below t =
     and 3 list-freed-kinds.ps (falls 3 list-freed-kinds.ps _<_ μ-list-freed t) list-freed.Pre
 
 abbrev list-freed-Inv-loop : list-freed-lts.InvT-loop
-list-freed-Inv-loop last prev items₀ count node depth k n₀ child₀ left₀ items n child left = (left ≤ 128) × ((s : Slots) → LinksOf s (λ (x : Slot). x .«last_child») last → LinksOf s (λ (x : Slot). x .«prev_sibling») prev → addedAll (orderOf items n) (joined (freeOrder (depth - 1) s) (chainBack left s child)) ≡ addedAll (orderOf items₀ n₀) (joined (freeOrder (depth - 1) s) (chainBack 128 s child₀)))
+list-freed-Inv-loop last prev items₀ count node depth k n₀ child₀ left₀ items n child left = (left ≤ 128) × ((s : Slots) → LinksOf s (λ (x : Slot). x .«last_child») last → LinksOf s (λ (x : Slot). x .«prev_sibling») prev → addedAll (orderOf items n) (joined (backOrder (depth - 1) s) (chainBack left s child)) ≡ addedAll (orderOf items₀ n₀) (joined (backOrder (depth - 1) s) (chainBack 128 s child₀)))
 
 abbrev list-freed-μ-loop : list-freed-lts.MeasureT-loop
 list-freed-μ-loop last prev items₀ count node depth k n₀ child₀ left₀ items n child left = left
@@ -38,7 +38,7 @@ list-freed-returns : (t : ℕ) → list-freed-lts.Need-returns (
   list-freed-below t,
   list-freed.Post,
 ) (list-freed-at t) list-freed.Post list-freed-Inv-loop list-freed-μ-loop
-list-freed-returns t c = λ s a b. free-order-none _ s _ _ (c .if1 .taken)
+list-freed-returns t c = λ s a b. back-order-none _ s _ _ (c .if1 .taken)
 
 list-freed-returns-2 : (t : ℕ) → list-freed-lts.Need-returns-2 (
   link-at-reads.Asked,
@@ -97,7 +97,7 @@ list-freed-returns-3 : (t : ℕ) → list-freed-lts.Need-returns-3 (
 list-freed-returns-3 t c =
     let l = c .before .before .loop in
     λ s a b. sym (children-end s _ (l .left) _ (l .child) (c .if3 .taken)) ∙ l .inv .1 s a b
-    ∙ free-order-whole _ s _ _ (c .before .before .before .before .before .if1 .left) (added-where-there-is-room (orderOf _ _) _ (c .before .before .before .before .if2 .left)) (c .before .before .before .link-at .ensures ∙ a _)
+    ∙ back-order-whole _ s _ _ (c .before .before .before .before .before .if1 .left) (added-where-there-is-room (orderOf _ _) _ (c .before .before .before .before .if2 .left)) (c .before .before .before .link-at .ensures ∙ a _)
 
 list-freed-sub-list-freed : (t : ℕ) → list-freed-lts.Need-sub-list-freed (
   link-at-reads.Asked,
@@ -162,7 +162,7 @@ list-freed-returns-4 : (t : ℕ) → list-freed-lts.Need-returns-4 (
 list-freed-returns-4 t c =
     let l = c .before .loop in
     λ s a b. sym (children-done s _ (l .left) _ (l .child) (c .loop-test .left)) ∙ l .inv .1 s a b
-    ∙ free-order-whole _ s _ _ (c .before .before .before .before .if1 .left) (added-where-there-is-room (orderOf _ _) _ (c .before .before .before .if2 .left)) (c .before .before .link-at .ensures ∙ a _)
+    ∙ back-order-whole _ s _ _ (c .before .before .before .before .if1 .left) (added-where-there-is-room (orderOf _ _) _ (c .before .before .before .if2 .left)) (c .before .before .link-at .ensures ∙ a _)
 
 pub +list-freed-spec : {M : Type 1} → statement M
 +list-freed-spec = close μ-list-freed λ t. list-freed-lts.spec (

@@ -2,8 +2,7 @@
 use Prim.Native.Nat.{ℕ}
 use mathlib.Core.Path.{ap, _∙_}
 use mathlib.Core.List.{List}
-use Rattle.arena.specs.Slots.{freeOrder}
-use Rattle.arena.specs.Support.Lists.{orderOf, addedAll}
+use Rattle.arena.specs.Support.Lists.{orderOf, addedAll, backOrder, walked}
 use Rattle.arena.specs.declared.links.Order.{Order}
 use Rattle.arena.proofs.Checks.ListLaws.{listed-by-a-walk}
 use borrow.Author.Needs.{needs}
@@ -26,9 +25,10 @@ list-freed-requires : tie.Need-list-freed-requires
 list-freed-requires c κs = search needs
 
 returns : tie.Need-returns
+unfolding walked
 returns c =
     let a = c .before .before .before .before .before .before .before .before .before .args in
-    let l : List ℕ = freeOrder 128 (a .slots) (a .node) in
+    let l : List ℕ = backOrder 128 (a .slots) (a .node) in
     let back = c .before .before .before .before .before .before .before .before .links-back .ensures in
     listed-by-a-walk (orderOf _ _) l (c .list-freed .ensures _ (back .0) (back .1) ∙ ap (λ (o : Order). addedAll o l) (c .before .before .before .before .before .none-listed .ensures))
 

@@ -1,6 +1,4 @@
 -- Each part by its contract. Assumes nothing.
-use Rattle.tree.specs.Calls.{removeAt}
-use Rattle.arena.specs.Slots.{freeing}
 use Rattle.tree.specs.Trees.{withNodes}
 use borrow.Author.Needs.{needs}
 use Rattle.tree.proofs.nodes.remove_at.Statement.{statement}
@@ -25,7 +23,7 @@ saturating-sub-requires : tie.Need-saturating-sub-requires
 saturating-sub-requires c κs = search needs
 
 returns : tie.Need-returns
-unfolding removeAt withNodes freeing
+unfolding withNodes
 returns c = rw (c .saturating-sub .ensures, c .before .listed-count .ensures, c .before .before .reset-states .ensures, c .before .before .before .before .free-listed .ensures .0, c .before .before .before .before .free-listed .ensures .1, c .before .before .before .before .before .freed-order .ensures .1, c .before .before .before .before .before .before .unlink .ensures)
 
 pub remove-at-spec : {M : Type 1} → statement M

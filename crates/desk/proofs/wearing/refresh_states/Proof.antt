@@ -9,16 +9,16 @@ use lib.Dec.{lit<}
 use lib.Seq.{length-take-le, getD-take}
 use Rattle.arena.specs.Slots.{at}
 use Rattle.arithmetic.specs.Tests.{same}
 use Rattle.tree.specs.Calls.{gives}
 use Rattle.tree.specs.Wearing.{bitsAt, withAppearance}
 use Rattle.arena.specs.Styles.{noPatch, layoutAt, stateAt}
 use Rattle.tree.specs.Trees.{withStyles}
 use Rattle.tree.specs.declared.Ui.{Ui}
 use Rattle.tree.proofs.Wearings.{refreshed-whole, lookAfter, look-first, look-last, look-same, look-other, look-past, look-lengths, look-slots, look-pools, look-style, bits-there}
-use Rattle.tree.proofs.wearing.refresh_states.Statement.{statement}
-use Rattle.tree.proofs.wearing.refresh_states.Tie as tie
-use Rattle.tree.proofs.wearing.refresh_states.Reads as reads
-use Rattle.tree.proofs.wearing.refresh_states.Lts as lts
+use Rattle.desk.proofs.wearing.refresh_states.Statement.{statement}
+use Rattle.desk.proofs.wearing.refresh_states.Tie as tie
+use Rattle.desk.proofs.wearing.refresh_states.Reads as reads
+use Rattle.desk.proofs.wearing.refresh_states.Lts as lts
 
 abbrev Inv-loop : tie.InvT-loop
 Inv-loop hover u₀ limit pressed focus kept count n items j₀ u j = (j ≤ n) × (n ≤ 6) × (length items ≡ 6) × (u ≡ withAppearance u₀ (lookAfter u₀ hover (take n items) j))
