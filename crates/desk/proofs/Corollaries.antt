@@ -1,22 +1,18 @@
 -- What follows from demand 3, as specs/Corollaries.antt states it. Assumes nothing.
 use mathlib.Core.Path.{_≡_, refl, sym, ap, subst, _∙_}
-use mathlib.Core.Bool.{Bool, true, false, _&&_, _||_, not, cond}
+use mathlib.Core.Bool.{true, false, _&&_, not, cond}
 use mathlib.Core.List.{List, [], _∷_, _++_}
 use Prim.Native.Nat.{ℕ, suc, _+_, _<_, _^_}
 use native.Mathlib.Omega.{arith}
-use lib.Dec.{ltb, eqb}
 use lib.ListN.{length, getD}
-use Rattle.text.specs.Steps.{front}
 use Rattle.text.specs.Refusal.{Answer, accepted}
 use Rattle.text.specs.Utf8.{encodedAll}
 use Rattle.field.specs.Text.{Text, text, bytesOf, caretOf}
-use Rattle.field.specs.Metres.{isPoint, isDigit, behind, metresOf}
+use Rattle.field.specs.Metres.{metresOf}
 use Rattle.field.specs.declared.NodeId.{NodeId}
-use Rattle.arithmetic.specs.Tests.{same, all, Maybe, nothing, just, within}
-use Rattle.tree.specs.States.{inPool}
-use Rattle.tree.specs.Slots.{sameId, nobody}
-use Rattle.tree.specs.Forest.{Forest, nil, node, hasBoth, hasId, kidsOf, setKidsOf, cutOf, find, size}
-use Rattle.tree.specs.Nodes.{Info, withField, changeNamed, changeOf, wears, restyled, withTable, bare, hasField}
+use Rattle.arithmetic.specs.Tests.{same, Maybe, nothing, just}
+use Rattle.tree.specs.Forest.{Forest, nil, node, hasBoth, hasId, kidsOf, setKidsOf, cutOf, find}
+use Rattle.tree.specs.Nodes.{Info, withField, changeNamed, changeOf, wears, restyled, withTable, bare}
 use Rattle.tree.specs.Layout.{viewRect, sameView}
 use Rattle.tree.specs.Calls as tree
 use Rattle.tree.specs.declared.Ui.{Ui}
@@ -27,13 +23,12 @@ use Rattle.tree.proofs.FieldLaws.{one-id-is-the-other, to-have-an-id-is-to-be-n
 use Rattle.tree.specs.Fields.{fieldOf, noText}
 use Rattle.tree.proofs.Relation.{textIn}
 use Rattle.desk.specs.Events as desk
-use Rattle.tree.specs.History.{History, Call, Change, Question, has, unless, start, refusalOf, refusalOfField, refusalOfChange, refusalOfQuestion, afterChange, accept, recorded, grown, keepText, keyText, mapMaybe, refresh, afterEvent, padded, ofText, ofNode, textSaid, caretSaid, metresSaid, rectSaid, liveSaid, firstSaid, nextSaid, fieldCount, rootId}
+use Rattle.tree.specs.History.{History, Call, Change, has, start, refusalOf, refusalOfField, refusalOfChange, afterChange, accept, recorded, grown, keepText, keyText, mapMaybe, refresh, afterEvent, padded, ofText, ofNode, textSaid, caretSaid, metresSaid}
 use Rattle.tree.specs.History.Call.{insert, change, ask}
 use Rattle.tree.specs.History.Change.{remove, setStyle, setStateTable, setPatchPool, makeField, solve, handle, nextOutput}
-use Rattle.tree.specs.History.Question.{fieldText, fieldCursor, metres, rect, live, firstChild, nextSibling, absorb}
-use Rattle.desk.specs.Demand3.{step, run, feed, Machines, follow, refusals}
+use Rattle.desk.specs.Demand3.{step, feed, Machines, follow}
 use Rattle.desk.specs.Keys.{typedOn, textOfKeys, Log, logKey, logEvent, beginAt, logField, loggedChange, logged, logs, noKeys}
-use Rattle.desk.specs.Corollaries.{NeverOne, newOne, treeAfter, historyAfter, keysAfter, HasField, Corollaries}
+use Rattle.desk.specs.Corollaries.{newOne, treeAfter, historyAfter, keysAfter, HasField, Corollaries}
 use Rattle.boxes.specs.declared.UiEvent.{UiEvent}
 use Rattle.boxes.specs.declared.UiEvent.the-variants.{PointerMoved, PointerPressed, PointerReleased, TextEntered, Edit}
 use Rattle.boxes.specs.declared.Key.{Key}
@@ -42,72 +37,8 @@ use Rattle.desk.proofs.Invariant.{OwnName, OwnText, Inv, SameNodes, sam
 use Rattle.desk.proofs.AnswerLaws.{Kept}
 use Rattle.desk.proofs.CallSteps.{every-call}
 use Rattle.desk.proofs.Demand3.{starts, demand-3}
-
--- ---- number 1
-
-unless-not : (b : Bool) (n m : ℕ) → (n ≡ 1 → ⊥) → (m ≡ 1 → ⊥) → unless b n m ≡ 1 → ⊥
-unless-not true n m p q = q
-unless-not false n m p q = p
-
-text-not : {A : Type 0} (none : A) (read : Text → Answer A) → ((t : Text) → read t .number ≡ 1 → ⊥) → (m : Maybe Text) → ofText none read m .number ≡ 1 → ⊥
-text-not none read h nothing = λ e. omega arith
-text-not none read h (just t) = h t
-
-node-not : {A : Type 0} (none : A) (read : Info → Answer A) → ((x : Info) → read x .number ≡ 1 → ⊥) → (m : Maybe Info) → ofNode none read m .number ≡ 1 → ⊥
-node-not none read h nothing = λ e. omega arith
-node-not none read h (just x) = h x
-
-picked-not : {A : Type 0} (b : Bool) (a c : Answer A) → (a .number ≡ 1 → ⊥) → (c .number ≡ 1 → ⊥) → cond b a c .number ≡ 1 → ⊥
-picked-not true a c p q = p
-picked-not false a c p q = q
-
-behind-not : (v : ℕ) (s : List ℕ) → behind v s .number ≡ 1 → ⊥
-unfolding behind
-behind-not v [] = λ e. omega arith
-behind-not v (p ∷ []) = λ e. omega arith
-behind-not v (p ∷ d ∷ []) = picked-not (isPoint p && isDigit d) _ _ (λ e. omega arith) (λ e. omega arith)
-behind-not v (p ∷ d ∷ e ∷ []) = picked-not (isPoint p && (isDigit d && isDigit e)) _ _ (λ e. omega arith) (λ e. omega arith)
-behind-not v (p ∷ d ∷ e ∷ x ∷ s) = λ e. omega arith
-
-metres-not : (s : List ℕ) → metresOf s .number ≡ 1 → ⊥
-unfolding metresOf
-metres-not s = picked-not (eqb (length s) 0) _ _ (λ e. omega arith) (picked-not (within 1 3 (front isDigit s)) _ _ (behind-not _ _) (λ e. omega arith))
-
-field-not : (h : History) (m : Maybe Info) → refusalOfField h m ≡ 1 → ⊥
-field-not h nothing = λ e. omega arith
-field-not h (just x) = unless-not (hasField x || ltb (fieldCount (h .tree)) 8) 4 0 (λ e. omega arith) (λ e. omega arith)
-
-change-is-not-1 : (h : History) (c : Change) → refusalOfChange h c ≡ 1 → ⊥
-change-is-not-1 h (remove d) = unless-not (has h d) 3 _ (λ e. omega arith) (unless-not (not (sameId d rootId)) 5 0 (λ e. omega arith) (λ e. omega arith))
-change-is-not-1 h (setStyle d s) = unless-not (has h d) 3 0 (λ e. omega arith) (λ e. omega arith)
-change-is-not-1 h (setStateTable d table) = unless-not (has h d) 3 _ (λ e. omega arith) (unless-not (all (inPool (length (h .styling .pool))) table) 6 0 (λ e. omega arith) (λ e. omega arith))
-change-is-not-1 h (setPatchPool patches count) = unless-not (not (ltb 64 count)) 7 0 (λ e. omega arith) (λ e. omega arith)
-change-is-not-1 h (makeField d) = field-not h (find d (h .tree))
-change-is-not-1 h (solve v) = λ e. omega arith
-change-is-not-1 h (handle e) = λ e. omega arith
-change-is-not-1 h nextOutput = λ e. omega arith
-
-question-is-not-1 : (h : History) (q : Question) → refusalOfQuestion h q ≡ 1 → ⊥
-unfolding textSaid caretSaid metresSaid rectSaid liveSaid firstSaid nextSaid
-question-is-not-1 h (fieldText d) = node-not _ _ (λ x. text-not _ _ (λ t e. omega arith) (x .text)) (find d (h .tree))
-question-is-not-1 h (fieldCursor d) = node-not _ _ (λ x. text-not _ _ (λ t e. omega arith) (x .text)) (find d (h .tree))
-question-is-not-1 h (metres d) = node-not _ _ (λ x. text-not _ _ (λ t. metres-not (bytesOf t)) (x .text)) (find d (h .tree))
-question-is-not-1 h (rect d) = node-not _ _ (λ x e. omega arith) (find d (h .tree))
-question-is-not-1 h (live d) = λ e. omega arith
-question-is-not-1 h (firstChild d) = λ e. omega arith
-question-is-not-1 h (nextSibling d) = picked-not (has h d) _ _ (λ e. omega arith) (λ e. omega arith)
-question-is-not-1 h (absorb s) = λ e. omega arith
-
-refusal-is-not-1 : (h : History) (c : Call) → refusalOf h c ≡ 1 → ⊥
-unfolding refusalOf
-refusal-is-not-1 h (insert d) = unless-not (has h d) 3 _ (λ e. omega arith) (unless-not (ltb (size (h .tree)) (h .limit)) 4 0 (λ e. omega arith) (λ e. omega arith))
-refusal-is-not-1 h (change c) = change-is-not-1 h c
-refusal-is-not-1 h (ask q) = question-is-not-1 h q
-
-refusals-are-not-1 : (h : History) (cs : List Call) (fed : List NodeId) → NeverOne (refusals h cs fed)
-refusals-are-not-1 h [] fed = tt
-refusals-are-not-1 h (c ∷ cs) [] = tt
-refusals-are-not-1 h (c ∷ cs) (d ∷ fed) = (refusal-is-not-1 h c, refusals-are-not-1 (recorded h c d) cs fed)
+use Rattle.desk.proofs.NewTrees.{the-new-tree-is-not-broken, no-call-is-refused-by-1}
+use Rattle.tree.specs.Slots.{nobody}
 
 -- ---- keys
 
@@ -304,7 +235,7 @@ corollaries limit l cs n m =
     λ d x f. a .metres-are d ∙ of-keys limit cs n m 0 _ d x f in
     record {
       no-id-is-given-twice = h .ids-differ;
-      number-1-never-comes = subst NeverOne (sym (h .refused-alike)) (refusals-are-not-1 (start limit) cs (feed (newOne limit cs) cs));
+      number-1-never-comes = let w = the-new-tree-is-not-broken limit in no-call-is-refused-by-1 (newOne limit cs) cs (w .0) (w .1) m;
       a-text-is-its-keys = text′;
       a-caret-is-its-keys = caret′;
       metres-are-of-its-keys = metres′;

@@ -43,7 +43,7 @@ limit-in-range limit =
     nonzero zero e = absurd (e refl)
     nonzero (suc n) e = omega arith
 
-new-is-fresh : (limit : ℕ) → tree.newTree limit .next ≡ fresh (limitFrom limit)
+pub new-is-fresh : (limit : ℕ) → tree.newTree limit .next ≡ fresh (limitFrom limit)
 unfolding tree.newTree limitFrom
 new-is-fresh limit = bool-cases (ltb 128 limit) (λ b. rw b) (λ b. rw b)
 

@@ -15,4 +15,5 @@ pub mod CallLaws
 pub mod NotBrokenStays
 pub mod PassBoxes
 pub mod Demand3
+pub mod NewTrees
 pub mod Corollaries

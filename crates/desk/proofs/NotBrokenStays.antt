@@ -28,7 +28,7 @@ use Rattle.tree.specs.Calls.{takeVacant, takeField}
 use Rattle.tree.specs.Types.{StateSlot}
 use Rattle.tree.specs.declared.Ui.{Ui}
 use Rattle.tree.proofs.Relation.{AllFields}
-use Rattle.tree.proofs.GeometryLaws.{same-is}
+use Rattle.arithmetic.proofs.TestLaws.{same-is}
 use Rattle.tree.proofs.StateLaws.{EachState}
 use Rattle.tree.proofs.WellLaws.{each-of-a-front-passes, a-front-passes-if-each-does, states-well-by-slot}
 use Rattle.tree.proofs.FieldLaws.{an-edit-keeps-of-each, an-edit-keeps-the-number-of-fields, an-edit-keeps-owners-apart}
@@ -70,7 +70,7 @@ each-field (f ∷ fs) r l =
     let bs : Bool = all (λ (f : Field). same (length (f .bytes)) 64) fs in
     ((and-left (fieldOk f) (all fieldOk fs) r, same-is (length (f .bytes)) 64 (and-left b bs l)), each-field fs (and-right (fieldOk f) (all fieldOk fs) r) (and-right b bs l))
 
-all-bytes : (fs : List Field) → AllFields FieldKept fs → all (λ (f : Field). same (length (f .bytes)) 64) fs ≡ true
+pub all-bytes : (fs : List Field) → AllFields FieldKept fs → all (λ (f : Field). same (length (f .bytes)) 64) fs ≡ true
 all-bytes [] r = refl
 all-bytes (f ∷ fs) r = rw (same-yes (length (f .bytes)) 64 (r .0 .1)) (all-bytes fs (r .1))
 
@@ -201,7 +201,7 @@ module _ {u : Ui} (k : Kept u) where
   change-keeps (handle e) m = guarded-keeps k {A = ℕ} 0 (record { next-kept = a-refresh-keeps-the-tree (event-keeps k (hitOf u) e) _ }) .next-kept
   change-keeps nextOutput m = guarded-keeps k Absent (output-keeps (waitingOf u) refl) .next-kept
 
-  call-keeps : (c : Call) → Machine c → Kept (step u c .next)
+  pub call-keeps : (c : Call) → Machine c → Kept (step u c .next)
   unfolding step
   call-keeps (insert d) m = insert-keeps d .next-kept
   call-keeps (change c) m = change-keeps c m

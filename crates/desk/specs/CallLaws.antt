@@ -1,4 +1,5 @@
 -- What holds of every tree whatsoever and of every call, without a history.
+use Prim.Native.Nat.{ℕ}
 use mathlib.Core.Path.{_≡_}
 use mathlib.Core.Bool.{Bool, true, false, _||_, not}
 use mathlib.Core.List.{List, map}
@@ -42,6 +43,10 @@ pub record MachineTree (u : Ui) : Type 0 where
 -- After any calls on a tree that is not broken the tree is not broken.
 abbrev pub NotBrokenStays : Type 0
 NotBrokenStays = (u : Ui) (cs : List Call) → MachineTree u → broken u ≡ false → Machines cs → MachineTree (run u cs) × (broken (run u cs) ≡ false)
+
+-- The new tree of every limit is such a tree: no calls from it, however many, ever break it.
+abbrev pub TheNewTreeIsNotBroken : Type 0
+TheNewTreeIsNotBroken = (limit : ℕ) → MachineTree (tree.newTree limit .next) × (broken (tree.newTree limit .next) ≡ false)
 
 -- A pass is made: nodes, links or looks changed since the last one, or the viewport did.
 abbrev pub passDue : Ui → Viewport → Bool

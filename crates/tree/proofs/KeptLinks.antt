@@ -4,32 +4,32 @@ use mathlib.Core.Path.{_≡_, refl, sym, _∙_}
 use mathlib.Core.Logic.{_≢_}
 use mathlib.Core.Bool.{true}
 use mathlib.Core.List.{List}
-use Prim.Native.Nat.{ℕ, _≤_}
+use Prim.Native.Nat.{ℕ, _-_}
 use native.Mathlib.Omega.{arith}
 use lib.ListN.{length, length-set}
-use lib.Seq.{take-all}
 use Rattle.field.specs.declared.NodeId.{NodeId}
+use Rattle.arena.specs.Forest.{size}
 use Rattle.arena.specs.Slots.{NIL, at, isLive, unlink, freeOrder, freeing}
 use Rattle.boxes.specs.Styles.{freshLayout, freshState, freshStyle}
 use Rattle.tree.specs.Trees.{limitOf, withNodes}
 use Rattle.tree.specs.Calls.{insertAt, removeAt}
 use Rattle.tree.specs.declared.Ui.{Ui}
 use Rattle.arithmetic.proofs.TestLaws.{δ-refl}
-use Rattle.arena.proofs.Forests.ForestLaws.{cnt}
+use Rattle.arena.proofs.Forests.ForestLaws.{cnt, cut}
 use Rattle.arena.proofs.Forests.Relations.{below}
 use Rattle.arena.proofs.Forests.LinkInserts.{insert-rel, insert-size}
-use Rattle.arena.proofs.Forests.LinkRemovals.{remove-rel}
 use Rattle.arena.proofs.Forests.Ids.{live-id, live-just-where-a-node-has-it, free-cases}
 use Rattle.arena.proofs.Checks.RuleLaws.{links-are-well}
-use Rattle.arena.proofs.Checks.LinkedForests.{HoldsForest, linked-slots-hold-a-forest}
+use Rattle.arena.proofs.Checks.LinkedForests.{HoldsForest}
 use Rattle.tree.proofs.StateLaws.{a-stored-state-keeps-of-each}
 use Rattle.tree.proofs.WellLaws.{WellIn, a-bare-slot-is-well}
 use Rattle.tree.proofs.RemoveParts.{reset-states-are-as-many, reset-states-keep-of-each}
-use Rattle.tree.proofs.KeptTrees.{Tabled, Kept}
+use Rattle.tree.proofs.WholeTrees.{held, removed-from-the-forest}
+use Rattle.tree.proofs.KeptTrees.{Tabled, Kept, a-kept-tree-is-not-broken}
 
 module _ {u : Ui} (k : Kept u) where
   pub the-forest-that-the-links-hold : HoldsForest (limitOf u) (u .slots) (u .free) (u .live)
-  the-forest-that-the-links-hold = linked-slots-hold-a-forest (limitOf u) (u .slots) (u .free) (u .live) (k .links .long) (k .small) (k .links .well)
+  the-forest-that-the-links-hold = held u (k .links .long) (a-kept-tree-is-not-broken k)
 
   -- a live id is that of one node
   pub one-node-has-a-live-id : (d : NodeId) → isLive (limitOf u) (u .slots) d ≡ true → cnt (d .index) (the-forest-that-the-links-hold .forest) ≡ 1
@@ -70,24 +70,22 @@ module _ {u : Ui} (k : Kept u) where
   pub a-removal-keeps-the-tree : (d : NodeId) → isLive (limitOf u) (u .slots) d ≡ true → d .index ≢ 0 → Kept (removeAt u (d .index))
   unfolding removeAt withNodes freeing
   a-removal-keeps-the-tree d live nz =
-      let H = the-forest-that-the-links-hold in
-      let c = one-node-has-a-live-id d live in
-      let R = remove-rel (limitOf u) (u .slots) (u .free) (H .forest) (H .chained) (d .index) (H .rel) c nz in
+      let H = held u (k .links .long) (a-kept-tree-is-not-broken k) in
+      let R = removed-from-the-forest u (k .links .long) (a-kept-tree-is-not-broken k) d live nz in
       let o : List ℕ = freeOrder 128 (unlink (u .slots) (d .index)) (d .index) in
       let z = R .sizes in
-      let t = H .rel .total in
       let m = k .small in
       let n = H .count in
       let ls = k .looks .sized .1 in
-      let short : length o ≤ 128 = omega arith in
-      rw (take-all 128 o short) record {
+      let c : u .live - length o ≡ size (cut (d .index) (H .forest)) = omega arith in
+      record {
         some = k .some;
         small = k .small;
         stated = k .stated;
         pool = k .pool;
         queue = k .queue;
         fields = k .fields;
-        links = record { long = R .rel .len; well = links-are-well (limitOf u) _ _ _ _ _ (R .rel) (omega arith) };
+        links = record { long = R .rel .len; well = links-are-well (limitOf u) _ _ _ _ _ (R .rel) c };
         looks = record {
           sized = (k .looks .sized .0, reset-states-are-as-many (u .states) o ∙ ls);
           tables = reset-states-keep-of-each Tabled 128 (u .states) o (omega arith) refl (k .looks .tables);

@@ -14,9 +14,8 @@ use Rattle.field.specs.declared.Field.{Field}
 use Rattle.field.proofs.Laws.{empty-field-keeps-the-rules}
 use Rattle.arithmetic.specs.Tests.{all, fromTo, nothing}
 use Rattle.arithmetic.proofs.BoolLaws.{pick-of}
-use Rattle.arena.specs.Slots.{Slots, isLive}
+use Rattle.arena.specs.Slots.{Slots, isLive, backwards}
 use Rattle.boxes.specs.States.{Appearance, inPool}
-use Rattle.arena.specs.Slots.{backwards}
 use Rattle.boxes.specs.Layout.{passed}
 use Rattle.arena.specs.Fields.{fieldOf, reclaimed, claimed}
 use Rattle.arena.specs.Rules.{linked, distinct, ownersWell}

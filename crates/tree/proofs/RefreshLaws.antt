@@ -14,12 +14,11 @@ use Rattle.field.specs.declared.NodeId.{NodeId}
 use Rattle.field.specs.declared.MaybeId.{MaybeId}
 use Rattle.field.specs.declared.MaybeId.the-variants.{Absent, Present}
 use Rattle.arithmetic.specs.Tests.{same, δ, occ}
-use Rattle.arena.specs.Slots.{at, isLive, idAt, isId}
+use Rattle.arena.specs.Slots.{at, isLive, idAt, isId, backwards}
 use Rattle.boxes.specs.Styles.{freshState, stateAt}
 use Rattle.tree.specs.Trees.{limitOf, poolOf, statedOf, withStyles, withStated}
 use Rattle.tree.specs.Wearing.{appearanceOf, bitsAt, refreshed}
 use Rattle.boxes.specs.States.{bitsOf, liveSlot, bearing}
-use Rattle.arena.specs.Slots.{backwards}
 use Rattle.arena.specs.Rules.{distinct}
 use Rattle.arena.specs.Forest.{Forest, mapF, anyF}
 use Rattle.boxes.specs.Nodes.{Info, wears, swaps}

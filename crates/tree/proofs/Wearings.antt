@@ -8,10 +8,9 @@ use lib.ListN.{length, getD, set, take, List·getD-eq-default}
 use lib.Seq.{set-out, take-suc, take-all}
 use Rattle.field.specs.declared.MaybeId.{MaybeId}
 use Rattle.arithmetic.specs.Tests.{same, fromTo}
-use Rattle.arena.specs.Slots.{idAt, isId}
+use Rattle.arena.specs.Slots.{idAt, isId, backwards}
 use Rattle.boxes.specs.Styles.{noState, noPatch, layoutAt, stateAt, bareState}
 use Rattle.boxes.specs.States.{liveSlot, bitsBy, Appearance, wearing, withStyle, wear, patchStyle, entryOf, touches, bared, bareAll, based, tabled, wearAll, bitsOf, bearing}
-use Rattle.arena.specs.Slots.{backwards}
 use Rattle.tree.specs.Wearing.{appearanceOf, styledAt, tabledAt, bitsAt, withAppearance, refreshed}
 use Rattle.tree.specs.Trees.{limitOf, poolOf, withStyles, statedOf, withStated}
 use Rattle.tree.specs.declared.Ui.{Ui}

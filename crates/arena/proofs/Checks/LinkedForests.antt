@@ -14,9 +14,8 @@ use Rattle.arena.specs.Forest.{Forest, nil, node, app, size}
 use Rattle.arena.specs.Slots.{NIL, Slots, at, used, chain, kidsAt, order}
 use Rattle.arena.specs.Rules.{aliveness, kidsWell, nodeWell, freeWell, once, eachOnce, rootWell, linked}
 use Rattle.arena.specs.declared.Slot.{Slot}
-use Rattle.arithmetic.proofs.TestLaws.{δ-refl, δ-same, δ-other, δ-le, eq-cases, zero-cases, bool-cases}
+use Rattle.arithmetic.proofs.TestLaws.{δ-refl, δ-same, δ-other, δ-le, eq-cases, zero-cases, bool-cases, same-is}
 use Rattle.arithmetic.proofs.BoolLaws.{both}
-use Rattle.arithmetic.proofs.TestLaws.{same-is}
 use Rattle.arena.proofs.Forests.ForestLaws.{firstOr, lastOr, cnt, cnt-app, size-app}
 use Rattle.arena.proofs.Forests.Segments.{SegR}
 use Rattle.arena.proofs.Forests.Relations.{Rel, FreeR}
