@@ -17,7 +17,7 @@ use Rattle.tree.specs.Calls.{fresh}
 use Rattle.tree.specs.Types.{StateSlot}
 use Rattle.tree.specs.History.{Call, limitFrom}
 use Rattle.tree.specs.declared.Ui.{Ui}
-use Rattle.tree.proofs.GeometryLaws.{no-more}
+use Rattle.arithmetic.proofs.BoolLaws.{no-more}
 use Rattle.tree.proofs.Relation.{AllFields, Ruled}
 use Rattle.tree.proofs.KeptTrees.{FieldKept, Kept, a-kept-tree-is-not-broken}
 use Rattle.desk.specs.Demand3.{step, numbers, Machines}
