@@ -19,7 +19,7 @@ use Rattle.tree.specs.Types.{Rect, LayoutSlot, Viewport}
 use Rattle.tree.specs.declared.Ui.{Ui}
 use Rattle.tree.proofs.PassBoxes.{equal-styles-slot-by-slot, the-boxes-after-a-pass-are-by-the-styles}
 use Rattle.tree.proofs.KeptLinks.{the-forest-that-the-links-hold, one-node-has-a-live-id}
-use Rattle.desk.specs.CallLaws.{passDue, APassUsesNoEarlierBox}
+use Rattle.desk.specs.CallLaws.{passDue, withLayout, APassUsesNoEarlierBox}
 use Rattle.desk.proofs.NotBrokenStays.{kept-if-not-broken}
 
 not-made-twice : (dirty same : Bool) → (dirty || not same) ≡ true → (not dirty && same) ≡ false
@@ -28,7 +28,7 @@ not-made-twice false true e = sym e
 not-made-twice false false e = refl
 
 -- the rules read no layout slot
-no-rule-reads-a-box : (u : Ui) (l : List LayoutSlot) → broken (withStyles u l (u .states) (u .dirty)) ≡ broken u
+no-rule-reads-a-box : (u : Ui) (l : List LayoutSlot) → broken (withLayout u l) ≡ broken u
 unfolding broken linksWell withStyles
 no-rule-reads-a-box u l = refl
 
@@ -58,7 +58,7 @@ a-pass-uses-no-earlier-box u v m b due l e d =
     let k = kept-if-not-broken u m b in
     let len = m .layout in
     let len′ : length l ≡ length (u .layout) = sym (length-map l (λ (x : LayoutSlot). x .style)) ∙ ap length e ∙ length-map (u .layout) (λ (x : LayoutSlot). x .style) in
-    the-box-after (withStyles u l (u .states) (u .dirty)) v (no-rule-reads-a-box u l ∙ b) due d
+    the-box-after (withLayout u l) v (no-rule-reads-a-box u l ∙ b) due d
     ∙ bool-cases (isLive (limitOf u) (u .slots) d)
     (λ live.
     let c = one-node-has-a-live-id k d live in

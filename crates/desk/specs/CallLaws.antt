@@ -1,4 +1,5 @@
--- What holds of every tree whatsoever and of every call, without a history.
+-- What holds of every tree whatsoever and of every call, without a history. Proved in proofs/CallLaws.antt, NotBrokenStays.antt, NewTrees.antt
+-- and PassBoxes.antt.
 use Prim.Native.Nat.{ℕ}
 use mathlib.Core.Path.{_≡_}
 use mathlib.Core.Bool.{Bool, true, false, _||_, not}
@@ -11,7 +12,7 @@ use Rattle.tree.specs.Broken.{broken}
 use Rattle.tree.specs.Trees.{withStyles}
 use Rattle.tree.specs.Layout.{sameView}
 use Rattle.tree.specs.Calls as tree
-use Rattle.tree.specs.Types.{StateSlot, LayoutSlot, Viewport}
+use Rattle.tree.specs.Types.{Style, StateSlot, LayoutSlot, Viewport}
 use Rattle.tree.specs.declared.Ui.{Ui}
 use Rattle.tree.specs.History.{Call}
 use Rattle.desk.specs.Demand3.{step, run, Machines}
@@ -52,10 +53,17 @@ TheNewTreeIsNotBroken = (limit : ℕ) → MachineTree (tree.newTree limit .next)
 abbrev pub passDue : Ui → Viewport → Bool
 passDue u v = u .dirty || not (sameView (u .«solved_for») v)
 
--- A pass uses no earlier box. Whatever boxes and wanted sizes stood in the layout slots before it (`l`, with the same styles), the answer for
--- every id's box after it is the same.
+-- The tree with other layout slots, and what styles they have.
+abbrev pub withLayout : Ui → List LayoutSlot → Ui
+withLayout u l = withStyles u l (u .states) (u .dirty)
+
+abbrev pub stylesOf : List LayoutSlot → List Style
+stylesOf l = map (λ (x : LayoutSlot). x .style) l
+
+-- A pass uses no earlier box. Whatever boxes and wanted sizes stand in the layout slots before it, if only the styles are the same, the answer
+-- for every id's box after it is the same.
 abbrev pub APassUsesNoEarlierBox : Type 0
 APassUsesNoEarlierBox =
     (u : Ui) (v : Viewport) → MachineTree u → broken u ≡ false → passDue u v ≡ true
-    → (l : List LayoutSlot) → map (λ (x : LayoutSlot). x .style) l ≡ map (λ (x : LayoutSlot). x .style) (u .layout)
-    → (d : NodeId) → tree.rect (tree.solve (withStyles u l (u .states) (u .dirty)) v .next) d .answer ≡ tree.rect (tree.solve u v .next) d .answer
+    → (l : List LayoutSlot) → stylesOf l ≡ stylesOf (u .layout)
+    → (d : NodeId) → tree.rect (tree.solve (withLayout u l) v .next) d .answer ≡ tree.rect (tree.solve u v .next) d .answer
