@@ -15,7 +15,7 @@ use Rattle.field.specs.declared.MaybeId.the-variants.{Absent, Present}
 use Rattle.field.specs.declared.Field.{Field}
 use Rattle.arithmetic.specs.Tests.{same, all, Maybe, nothing, just}
 use Rattle.arithmetic.proofs.BoolLaws.{pick-of, and-left, and-right}
-use Rattle.arithmetic.proofs.TestLaws.{eq-cases, same-yes}
+use Rattle.arithmetic.proofs.TestLaws.{eq-cases, same-yes, same-is}
 use Rattle.tree.specs.Slots.{NIL, isLive, nobody, isId}
 use Rattle.tree.specs.Styles.{noState, stateAt}
 use Rattle.tree.specs.States.{inPool}
@@ -28,7 +28,6 @@ use Rattle.tree.specs.Calls.{takeVacant, takeField}
 use Rattle.tree.specs.Types.{StateSlot}
 use Rattle.tree.specs.declared.Ui.{Ui}
 use Rattle.tree.proofs.Relation.{AllFields}
-use Rattle.arithmetic.proofs.TestLaws.{same-is}
 use Rattle.tree.proofs.StateLaws.{EachState}
 use Rattle.tree.proofs.WellLaws.{each-of-a-front-passes, a-front-passes-if-each-does, states-well-by-slot}
 use Rattle.tree.proofs.FieldLaws.{an-edit-keeps-of-each, an-edit-keeps-the-number-of-fields, an-edit-keeps-owners-apart}
