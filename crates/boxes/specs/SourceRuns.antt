@@ -401,4 +401,37 @@ sourceRuns =
           gives (id 0 1) (id 0 0) 4 ∷
           [];
     } ∷
+    -- 10-eight-fields
+    record {
+      limit = 11;
+      lines =
+          gives (id 0 1) (id 1 1) 0 ∷
+          gives (id 0 1) (id 2 1) 0 ∷
+          gives (id 0 1) (id 3 1) 0 ∷
+          gives (id 0 1) (id 4 1) 0 ∷
+          gives (id 0 1) (id 5 1) 0 ∷
+          gives (id 0 1) (id 6 1) 0 ∷
+          gives (id 0 1) (id 7 1) 0 ∷
+          gives (id 0 1) (id 8 1) 0 ∷
+          gives (id 0 1) (id 9 1) 0 ∷
+          says (change (makeField (id 1 1))) (pos 0 ∷ []) ∷
+          says (change (makeField (id 2 1))) (pos 0 ∷ []) ∷
+          says (change (makeField (id 3 1))) (pos 0 ∷ []) ∷
+          says (change (makeField (id 4 1))) (pos 0 ∷ []) ∷
+          says (change (makeField (id 5 1))) (pos 0 ∷ []) ∷
+          says (change (makeField (id 6 1))) (pos 0 ∷ []) ∷
+          says (change (makeField (id 7 1))) (pos 0 ∷ []) ∷
+          says (change (makeField (id 8 1))) (pos 0 ∷ []) ∷
+          says (change (makeField (id 9 1))) (pos 4 ∷ []) ∷
+          says (change (makeField (id 3 1))) (pos 0 ∷ []) ∷
+          says (ask (fieldText (id 9 1))) (pos 8 ∷ pos 0 ∷ []) ∷
+          says (change (remove (id 4 1))) (pos 0 ∷ []) ∷
+          says (change (makeField (id 9 1))) (pos 0 ∷ []) ∷
+          says (ask (fieldText (id 9 1))) (pos 0 ∷ pos 0 ∷ []) ∷
+          gives (id 0 1) (id 4 2) 0 ∷
+          says (change (makeField (id 4 2))) (pos 4 ∷ []) ∷
+          says (ask (fieldText (id 4 2))) (pos 8 ∷ pos 0 ∷ []) ∷
+          says (ask (metres (id 4 1))) (pos 3 ∷ pos 0 ∷ []) ∷
+          [];
+    } ∷
     []

@@ -1,9 +1,7 @@
 -- Short runs by the definitions, with the source's answers: each side computes. Assumes nothing.
-use Prim.Native.Nat.{ℕ}
 use mathlib.Core.Path.{_≡_, refl}
 use mathlib.Core.List.{List, [], _∷_, _++_}
 use lib.IntN.{pos}
-use Rattle.field.specs.declared.NodeId.{NodeId}
 use Rattle.arithmetic.specs.Scalar.{stop, addSat, subSat, unsignedOf}
 use Rattle.arithmetic.specs.Fold.{emptyHash, fnvByte, foldBytes, lowBytes, absorbed}
 use Rattle.text.specs.Reader.{runFrom, isUtf8}
@@ -23,14 +21,14 @@ use Rattle.tree.specs.Calls.{guarded, fresh, newTree}
 use Rattle.desk.specs.Events as desk-Events
 use Rattle.desk.specs.Events.{activated, activate, hitOf, handled}
 use Rattle.desk.specs.Demand3.{step, run}
-use Rattle.tree.specs.History.{Call, History, limitFrom, start, refusalOf, grown, accept, recorded}
-use Rattle.tree.specs.History.Call.{insert, change}
-use Rattle.tree.specs.History.Change.{makeField, solve, handle}
+use Rattle.tree.specs.History.{Call}
+use Rattle.tree.specs.History.Call.{change}
+use Rattle.tree.specs.History.Change.{solve, handle}
 use Rattle.boxes.specs.declared.UiEvent.the-variants.{PointerMoved, PointerPressed, PointerReleased}
 
 -- The definitions that a run computes with: to unfold this one is to unfold them all.
 computing : Unit {0}
-unfolding stop addSat subSat unsignedOf fnvByte foldBytes lowBytes absorbed runFrom isUtf8 emptyField inRange fieldOk same δ withStyles withStated withPass withInteraction withWaiting at isLive chain kidsAt order layoutAt stateAt entryOf inPool wear bitsOf bitsAt wearAll liveSlot bearing refreshed boxes place measureAt measureAll setRects arrangeAt arrangeAll passed holds lastOf descend holdsAt hitAt kidsWell nodeWell freeWell eachOnce linksWell linked stateWell distinct ownersWell broken guarded newSlot newSlots fresh newTree tree-Calls.solve activated activate hitOf handled desk-Events.handle desk-Events.absorb step limitFrom start refusalOf grown accept recorded
+unfolding stop addSat subSat unsignedOf fnvByte foldBytes lowBytes absorbed runFrom isUtf8 emptyField inRange fieldOk same δ withStyles withStated withPass withInteraction withWaiting at isLive chain kidsAt order layoutAt stateAt entryOf inPool wear bitsOf bitsAt wearAll liveSlot bearing refreshed boxes place measureAt measureAll setRects arrangeAt arrangeAll passed holds lastOf descend holdsAt hitAt kidsWell nodeWell freeWell eachOnce linksWell linked stateWell distinct ownersWell broken guarded newSlot newSlots fresh newTree tree-Calls.solve activated activate hitOf handled desk-Events.handle desk-Events.absorb step
 computing = tt
 
 -- The root of a tree of one node is pressed and released, twice; or the pointer leaves it before the release.
@@ -52,22 +50,3 @@ activations-are-counted-and-folded = refl
 pub a-release-elsewhere-activates-nothing : desk-Events.absorb (run (newTree 1 .next) missedRun) emptyHash .answer .value ≡ 0x6f4748bc953e3ee0
 unfolding computing
 a-release-elsewhere-activates-nothing = refl
-
--- Eight nodes below the root, of which seven get a field.
-abbrev eight : List ℕ
-eight = 1 ∷ 2 ∷ 3 ∷ 4 ∷ 5 ∷ 6 ∷ 7 ∷ 8 ∷ []
-
-abbrev nodeOf : ℕ → NodeId
-nodeOf i = record { index = i; generation = 1 }
-
-abbrev inserted-all : History → List ℕ → History
-inserted-all h [] = h
-inserted-all h (i ∷ is) = inserted-all (recorded h (insert (nodeOf 0)) (nodeOf i)) is
-
-abbrev fields-made : History → List ℕ → History
-fields-made h [] = h
-fields-made h (i ∷ is) = fields-made (recorded h (change (makeField (nodeOf i))) (nodeOf 0)) is
-
-pub the-eighth-field-is-accepted : refusalOf (fields-made (inserted-all (start 9) eight) (1 ∷ 2 ∷ 3 ∷ 4 ∷ 5 ∷ 6 ∷ 7 ∷ [])) (change (makeField (nodeOf 8))) ≡ 0
-unfolding computing
-the-eighth-field-is-accepted = refl

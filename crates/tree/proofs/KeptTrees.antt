@@ -116,43 +116,29 @@ a-kept-tree-is-not-broken {u} k =
 
 module _ {u : Ui} (k : Kept u) where
   -- a base style, and a table
+  other-looks-keep-the-tree : (a : Appearance) → LooksKept (limitOf u) (u .«patch_count») a → Kept (withStyles u (a .layout) (a .states) (a .dirty))
+  unfolding withStyles
+  other-looks-keep-the-tree a l = record { some = k .some; small = k .small; links = k .links; looks = l; stated = k .stated; pool = k .pool; queue = k .queue; fields = k .fields }
+
   pub a-style-keeps-the-tree : (i : ℕ) → i < 128 → (y : Style) → Kept (styledAt u i y)
   unfolding styledAt withStyles
   a-style-keeps-the-tree i h y =
       let S = style-step u i y (k .looks .sized) h in
-      record {
-        some = k .some;
-        small = k .small;
-        links = k .links;
-        stated = k .stated;
-        pool = k .pool;
-        queue = k .queue;
-        fields = k .fields;
-        looks = record {
-          sized = S .sized;
-          tables = a-changed-slot-keeps-of-each Tabled 128 i S (λ e v. v) (k .looks .tables);
-          well = a-styled-tree-is-well (u .«patch_count») (limitOf u) u i y (k .looks .sized) h (k .looks .well);
-        };
-      }
+      other-looks-keep-the-tree (appearanceOf (styledAt u i y)) (record {
+        sized = S .sized;
+        tables = a-changed-slot-keeps-of-each Tabled 128 i S (λ e v. v) (k .looks .tables);
+        well = a-styled-tree-is-well (u .«patch_count») (limitOf u) u i y (k .looks .sized) h (k .looks .well);
+      })
 
   pub a-table-keeps-the-tree : (i : ℕ) → i < 128 → (table : List ℕ) → length table ≡ 16 → all (inPool (u .«patch_count»)) table ≡ true → Kept (tabledAt u i table)
   unfolding tabledAt withStyles
   a-table-keeps-the-tree i h table l e =
       let S = table-step u i table (k .looks .sized) h in
-      record {
-        some = k .some;
-        small = k .small;
-        links = k .links;
-        stated = k .stated;
-        pool = k .pool;
-        queue = k .queue;
-        fields = k .fields;
-        looks = record {
-          sized = S .sized;
-          tables = a-changed-slot-keeps-of-each Tabled 128 i S (λ _ _. l) (k .looks .tables);
-          well = a-tabled-tree-is-well (u .«patch_count») (limitOf u) u i table (k .looks .sized) h e (k .looks .well);
-        };
-      }
+      other-looks-keep-the-tree (appearanceOf (tabledAt u i table)) (record {
+        sized = S .sized;
+        tables = a-changed-slot-keeps-of-each Tabled 128 i S (λ _ _. l) (k .looks .tables);
+        well = a-tabled-tree-is-well (u .«patch_count») (limitOf u) u i table (k .looks .sized) h e (k .looks .well);
+      })
 
   -- another pool
   pub a-pool-keeps-the-tree : (patches : List StatePatch) (count : ℕ) → length patches ≡ 64 → count ≤ 64 → Kept (pooled u patches count)
