@@ -75,6 +75,11 @@ sourceRuns =
           says (change (solve (record { width = pos 26214400; height = pos 32768000 }))) (pos 0 ∷ []) ∷
           says (ask (rect (id 2 1))) (pos 0 ∷ pos 24838144 ∷ pos 16220160 ∷ pos 1310720 ∷ pos 655360 ∷ []) ∷
           says (ask (rect (id 3 1))) (pos 0 ∷ pos 26345472 ∷ pos 16023552 ∷ pos 655361 ∷ pos 1310721 ∷ []) ∷
+          says (change (setStyle (id 1 1) (style Row Auto Auto (edges (pos 0) (pos 0) (pos 0) (pos 0)) (edges (pos 0) (pos 0) (pos 0) (pos 0)) (pos 65536) 0 Start Start))) (pos 0 ∷ []) ∷
+          says (change (setStyle (id 2 1) (style Row (Px (pos 1310720)) (Px (pos 2621440)) (edges (pos 0) (pos 0) (pos 0) (pos 0)) (edges (pos 0) (pos 0) (pos 0) (pos 0)) (pos 0) 0 Start Start))) (pos 0 ∷ []) ∷
+          says (change (solve (record { width = pos 26214400; height = pos 32768000 }))) (pos 0 ∷ []) ∷
+          says (ask (rect (id 1 1))) (pos 0 ∷ pos 23396351 ∷ pos 15040512 ∷ pos 2031617 ∷ pos 2621440 ∷ []) ∷
+          says (ask (rect (id 3 1))) (pos 0 ∷ pos 24772607 ∷ pos 15040512 ∷ pos 655361 ∷ pos 1310721 ∷ []) ∷
           [];
     } ∷
     -- 03-growth
@@ -299,6 +304,12 @@ sourceRuns =
           says (change (solve (record { width = pos 14417920; height = pos 7864320 }))) (pos 0 ∷ []) ∷
           says (ask (rect (id 1 1))) (pos 0 ∷ pos 13762560 ∷ pos 7208960 ∷ pos 655360 ∷ pos 655360 ∷ []) ∷
           says (ask (rect (id 2 1))) (pos 0 ∷ pos 14417920 ∷ pos 7864320 ∷ pos 0 ∷ pos 0 ∷ []) ∷
+          says (change (setStyle (id 2 1) (style Row (Px (pos 327680)) (Px (pos 327680)) (edges (pos 0) (pos 0) (pos 0) (pos 0)) (edges (pos 0) (pos 0) (pos 0) (pos 0)) (pos 0) 0 Start Start))) (pos 0 ∷ []) ∷
+          says (change (solve (record { width = pos 14417920; height = pos 7864320 }))) (pos 0 ∷ []) ∷
+          says (ask (rect (id 1 1))) (pos 0 ∷ pos 13434880 ∷ pos 7208960 ∷ pos 655360 ∷ pos 655360 ∷ []) ∷
+          says (change (remove (id 2 1))) (pos 0 ∷ []) ∷
+          says (change (solve (record { width = pos 14417920; height = pos 7864320 }))) (pos 0 ∷ []) ∷
+          says (ask (rect (id 1 1))) (pos 0 ∷ pos 13762560 ∷ pos 7208960 ∷ pos 655360 ∷ pos 655360 ∷ []) ∷
           [];
     } ∷
     -- 08-pools
