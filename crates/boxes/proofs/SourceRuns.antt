@@ -1,8 +1,6 @@
 -- The history answers every line of the source's runs as the Rust does: each side computes. Assumes nothing.
-use Prim.Native.Nat.{ℕ}
 use mathlib.Core.Path.{_≡_, refl}
-use mathlib.Core.List.{List, [], map}
-use lib.ListN.{length, replicate}
+use mathlib.Core.List.{[], map}
 use Rattle.arithmetic.specs.Tests.{within, same, δ}
 use Rattle.arithmetic.specs.Scalar.{stop, addSat, subSat, gapTimes, maxOf, unsignedOf}
 use Rattle.arithmetic.specs.Growth.{sumTo, table, comesBefore, rank, growSum, wholeShare, remainder, missing, shareWithUnit, share, planGrowth}

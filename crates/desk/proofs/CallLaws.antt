@@ -1,6 +1,6 @@
--- Each call is a choice between refusals, which give back the tree, and an acceptance, whose number is 0; and the first choice of each is by the
--- link rules. Assumes nothing.
-use mathlib.Core.Path.{_≡_, refl}
+-- Each call first tests the link rules; behind that it is a choice between refusals by other numbers, which give back the tree, and an acceptance.
+-- One walk over the calls gives the three laws. Assumes nothing.
+use mathlib.Core.Path.{_≡_, refl, sym, _∙_}
 use mathlib.Core.Bool.{Bool, true, false, _&&_, not, cond}
 use mathlib.Core.List.{List, [], _∷_}
 use Prim.Native.Nat.{ℕ}
@@ -10,14 +10,14 @@ use lib.ListN.{length, drop}
 use Rattle.text.specs.Steps.{front}
 use Rattle.text.specs.Refusal.{Answer, numberOf}
 use Rattle.text.specs.declared.refusal.Refusal.{Refusal}
-use Rattle.text.specs.declared.refusal.Refusal.the-variants.{Missing, Full, Root, Foreign, Long, Fieldless}
+use Rattle.text.specs.declared.refusal.Refusal.the-variants.{Broken, Missing, Full, Root, Foreign, Long, Fieldless}
 use Rattle.field.specs.Fields.{fieldOk, held}
 use Rattle.field.specs.Metres.{isPoint, isDigit, behind, metresOf, fieldMetres}
 use Rattle.field.specs.declared.NodeId.{NodeId}
 use Rattle.field.specs.declared.MaybeId.the-variants.{Absent}
 use Rattle.field.specs.declared.Field.{Field}
 use Rattle.arithmetic.specs.Tests.{same, all, within, Maybe, nothing, just}
-use Rattle.arithmetic.proofs.BoolLaws.{pick-of}
+use Rattle.arithmetic.proofs.BoolLaws.{pick-of, no-more}
 use Rattle.arithmetic.proofs.TestLaws.{bool-cases}
 use Rattle.tree.specs.Slots.{NIL, isLive, nobody}
 use Rattle.tree.specs.Styles.{noRect}
@@ -41,105 +41,19 @@ use Rattle.tree.specs.History.Question.{fieldText, fieldCursor, metres, rect, l
 use Rattle.desk.specs.Demand3.{step, changeStep, numberAsked}
 use Rattle.desk.specs.CallLaws.{ARefusedCallChangesNothing, ABrokenTreeIsRefused, OnlyABrokenTreeIsRefusedBy1}
 
--- ---- a refused call gives back the tree
+-- A call's number and next tree.
+record Fair (u : Ui) (number : ℕ) (next : Ui) : Type 0 where
+  back : (number ≡ 0 → ⊥) → next ≡ u
+  by-1 : broken u ≡ true → number ≡ 1
+  not-by-1 : broken u ≡ false → number ≡ 1 → ⊥
 
-record Restores {A : Type 0} (u : Ui) (o : Outcome A) : Type 0 where
+abbrev FairCall : {A : Type 0} → Ui → Outcome A → Type 0
+FairCall u o = Fair u (o .answer .number) (o .next)
+
+-- What stands behind the test of the rules.
+record Behind {A : Type 0} (u : Ui) (o : Outcome A) : Type 0 where
   back : (o .answer .number ≡ 0 → ⊥) → o .next ≡ u
-
-module _ (u : Ui) where
-  accepted-restores : {A : Type 0} {u′ : Ui} {a : A} → Restores u (gives u′ a)
-  accepted-restores = record { back = λ r. absurd (r refl) }
-
-  refused-restores : {A : Type 0} {a : Answer A} → Restores u (record { next = u; answer = a })
-  refused-restores = record { back = λ r. refl }
-
-  either-restores : {A : Type 0} (b : Bool) {o o′ : Outcome A} → Restores u o → Restores u o′ → Restores u (cond b o o′)
-  either-restores b x y = pick-of (Restores u) b (λ _. x) (λ _. y)
-
-  guarded-restores : {A : Type 0} (none : A) {o : Outcome A} → Restores u o → Restores u (guarded u none o)
-  unfolding guarded
-  guarded-restores none x = either-restores (broken u) refused-restores x
-
-  live-restores : {A : Type 0} (d : NodeId) (none : A) {o : Outcome A} → Restores u o → Restores u (onLive u d none o)
-  unfolding onLive
-  live-restores d none x = guarded-restores none (either-restores (isLive (limitOf u) (u .slots) d) x refused-restores)
-
-  insert-restores : (d : NodeId) → Restores u (tree.insert u d)
-  unfolding tree.insert
-  insert-restores d = live-restores d nobody (either-restores (same (u .free) NIL) refused-restores accepted-restores)
-
-  field-restores : (d : NodeId) (m : Maybe Field) → Restores u (takeField u d m)
-  field-restores d (just f) = accepted-restores
-  field-restores d nothing = go (firstField vacant (reclaimed (limitOf u) (u .slots) (u .fields)))
-    where
-      go : (m : Maybe Field) → Restores u (takeVacant u d m)
-      go nothing = refused-restores
-      go (just f) = accepted-restores
-
-  oldest-restores : (ds : List NodeId) → Restores u (takeOldest u ds)
-  oldest-restores [] = accepted-restores
-  oldest-restores (d ∷ ds) = accepted-restores
-
-  change-restores : (c : Change) → (changeStep u c .number ≡ 0 → ⊥) → changeStep u c .next ≡ u
-  unfolding tree.remove tree.setStyle tree.setStateTable tree.setPatchPool tree.makeField tree.solve desk.handle desk.nextOutput
-  change-restores (remove d) = live-restores {A = ℕ} d 0 (either-restores (same (d .index) 0) refused-restores accepted-restores) .back
-  change-restores (setStyle d s) = live-restores {A = ℕ} d 0 accepted-restores .back
-  change-restores (setStateTable d table) = live-restores {A = ℕ} d 0 (either-restores (all (inPool (u .«patch_count»)) table) accepted-restores refused-restores) .back
-  change-restores (setPatchPool patches count) = guarded-restores {A = ℕ} 0 (either-restores (ltb 64 count) refused-restores accepted-restores) .back
-  change-restores (makeField d) = live-restores {A = ℕ} d 0 (field-restores d (fieldOf d (u .fields))) .back
-  change-restores (solve v) = guarded-restores {A = ℕ} 0 (either-restores (not (u .dirty) && sameView (u .«solved_for») v) accepted-restores accepted-restores) .back
-  change-restores (handle e) = guarded-restores {A = ℕ} 0 accepted-restores .back
-  change-restores nextOutput = guarded-restores Absent (oldest-restores (waitingOf u)) .back
-
-pub a-refused-call-changes-nothing : ARefusedCallChangesNothing
-unfolding step
-a-refused-call-changes-nothing u (insert d) = insert-restores u d .back
-a-refused-call-changes-nothing u (change c) = change-restores u c
-a-refused-call-changes-nothing u (ask q) = λ r. refl
-
--- ---- a broken tree is refused
-
-module _ (u : Ui) (b : broken u ≡ true) where
-  change-is-refused : (c : Change) → changeStep u c .number ≡ 1
-  unfolding tree.remove tree.setStyle tree.setStateTable tree.setPatchPool tree.makeField tree.solve desk.handle desk.nextOutput onLive guarded
-  change-is-refused (remove d) = rw b
-  change-is-refused (setStyle d s) = rw b
-  change-is-refused (setStateTable d table) = rw b
-  change-is-refused (setPatchPool patches count) = rw b
-  change-is-refused (makeField d) = rw b
-  change-is-refused (solve v) = rw b
-  change-is-refused (handle e) = rw b
-  change-is-refused nextOutput = rw b
-
-  question-is-refused : (q : Question) → numberAsked u q ≡ 1
-  unfolding tree.fieldText tree.fieldCursor desk.metres tree.rect tree.live tree.firstChild tree.nextSibling desk.absorb onField onLive guarded
-  question-is-refused (fieldText d) = rw (b, numberAsked)
-  question-is-refused (fieldCursor d) = rw (b, numberAsked)
-  question-is-refused (metres d) = rw (b, numberAsked)
-  question-is-refused (rect d) = rw (b, numberAsked)
-  question-is-refused (live d) = rw (b, numberAsked)
-  question-is-refused (firstChild d) = rw (b, numberAsked)
-  question-is-refused (nextSibling d) = rw (b, numberAsked)
-  question-is-refused (absorb s) = rw (b, numberAsked)
-
-  call-is-refused : (c : Call) → step u c .number ≡ 1
-  unfolding step tree.insert onLive guarded
-  call-is-refused (insert d) = rw b
-  call-is-refused (change c) = change-is-refused c
-  call-is-refused (ask q) = question-is-refused q
-
-pub a-broken-tree-is-refused : ABrokenTreeIsRefused
-a-broken-tree-is-refused u c b =
-    let e = call-is-refused u b c in
-    (e, a-refused-call-changes-nothing u c (λ z. omega arith))
-
--- ---- no other tree is refused by 1
-
-record Otherwise {A : Type 0} (o : Outcome A) : Type 0 where
-  not-by-1 : o .answer .number ≡ 1 → ⊥
-
-either-otherwise : {A : Type 0} (b : Bool) {o o′ : Outcome A} → Otherwise o → Otherwise o′ → Otherwise (cond b o o′)
-either-otherwise b x y = pick-of Otherwise b (λ _. x) (λ _. y)
+  not-by-1 : broken u ≡ false → o .answer .number ≡ 1 → ⊥
 
 -- a text is read as metres, or refused by 9 or 10
 abbrev NotBy1 : Answer ℕ → Type 0
@@ -158,76 +72,97 @@ unfolding metresOf
 metres-are-not-by-1 s =
     pick-of NotBy1 (eqb (length s) 0) (λ _ e. omega arith) (λ _. pick-of NotBy1 (within 1 3 (front isDigit s)) (λ _. behind-is-not-by-1 _ (drop (front isDigit s) s)) (λ _ e. omega arith))
 
-module _ (u : Ui) (b : broken u ≡ false) where
-  -- every word but the first
-  accepted-otherwise : {A : Type 0} {u′ : Ui} {a : A} → Otherwise (gives u′ a)
-  accepted-otherwise = record { not-by-1 = λ e. omega arith }
+module _ (u : Ui) where
+  accepted : {A : Type 0} {u′ : Ui} {a : A} → Behind u (gives u′ a)
+  accepted = record { back = λ r. absurd (r refl); not-by-1 = λ _ e. omega arith }
 
-  refused-otherwise : {A : Type 0} {none : A} (word : Refusal) → (numberOf word ≡ 1 → ⊥) → Otherwise (refuses u word none)
-  refused-otherwise word x = record { not-by-1 = x }
+  refused : {A : Type 0} {none : A} (word : Refusal) → (numberOf word ≡ 1 → ⊥) → Behind u (refuses u word none)
+  refused word x = record { back = λ _. refl; not-by-1 = λ _. x }
 
-  guarded-otherwise : {A : Type 0} (none : A) {o : Outcome A} → Otherwise o → Otherwise (guarded u none o)
+  either : {A : Type 0} (b : Bool) {o o′ : Outcome A} → Behind u o → Behind u o′ → Behind u (cond b o o′)
+  either b x y = pick-of (Behind u) b (λ _. x) (λ _. y)
+
+  guarded-is-fair : {A : Type 0} (none : A) {o : Outcome A} → Behind u o → FairCall u (guarded u none o)
   unfolding guarded
-  guarded-otherwise none x = rw b x
+  guarded-is-fair {A} none {o} x = go (broken u) refl
+    where
+      go : (b : Bool) → broken u ≡ b → FairCall u (cond b (refuses u Broken none) o)
+      go true e = record { back = λ _. refl; by-1 = λ _. refl; not-by-1 = λ f _. no-more (sym f ∙ e) }
+      go false e = record { back = x .back; by-1 = λ t. no-more (sym e ∙ t); not-by-1 = x .not-by-1 }
 
-  live-otherwise : {A : Type 0} (d : NodeId) (none : A) {o : Outcome A} → Otherwise o → Otherwise (onLive u d none o)
+  live-is-fair : {A : Type 0} (d : NodeId) (none : A) {o : Outcome A} → Behind u o → FairCall u (onLive u d none o)
   unfolding onLive
-  live-otherwise d none x = guarded-otherwise none (either-otherwise (isLive (limitOf u) (u .slots) d) x (refused-otherwise Missing (λ e. omega arith)))
+  live-is-fair d none x = guarded-is-fair none (either (isLive (limitOf u) (u .slots) d) x (refused Missing (λ e. omega arith)))
 
-  -- a read of a field, which keeps its rules
-  read-otherwise : {A : Type 0} (d : NodeId) (none : A) (read : Field → Outcome A) → ((f : Field) → fieldOk f ≡ true → Otherwise (read f)) → Otherwise (onField u d none read)
+  -- a field of a tree that is not broken keeps its rules
+  read-is-fair : {A : Type 0} (d : NodeId) (none : A) (read : Field → Outcome A) → ((f : Field) → (broken u ≡ false → fieldOk f ≡ true) → Behind u (read f)) → FairCall u (onField u d none read)
   unfolding onField
-  read-otherwise d none read x = live-otherwise d none (go (fieldOf d (u .fields)) refl)
+  read-is-fair d none read x = live-is-fair d none (go (fieldOf d (u .fields)) refl)
     where
-      go : (m : Maybe Field) → fieldOf d (u .fields) ≡ m → Otherwise (ofField u none read m)
-      go nothing e = refused-otherwise Fieldless (λ z. omega arith)
+      go : (m : Maybe Field) → fieldOf d (u .fields) ≡ m → Behind u (ofField u none read m)
+      go nothing e = refused Fieldless (λ z. omega arith)
       go (just f) e =
-          x f (found-field-is-ruled (λ g. fieldOk g ≡ true) d (u .fields) f (a-test-of-all-is-of-each fieldOk (u .fields) (a-tree-not-broken-keeps-each-rule u b .fields)) e)
+          x f (λ b. found-field-is-ruled (λ g. fieldOk g ≡ true) d (u .fields) f (a-test-of-all-is-of-each fieldOk (u .fields) (a-tree-not-broken-keeps-each-rule u b .fields)) e)
 
-  field-otherwise : (d : NodeId) (m : Maybe Field) → Otherwise (takeField u d m)
-  field-otherwise d (just f) = accepted-otherwise
-  field-otherwise d nothing = go (firstField vacant (reclaimed (limitOf u) (u .slots) (u .fields)))
+  taken : (d : NodeId) (m : Maybe Field) → Behind u (takeField u d m)
+  taken d (just f) = accepted
+  taken d nothing = go (firstField vacant (reclaimed (limitOf u) (u .slots) (u .fields)))
     where
-      go : (m : Maybe Field) → Otherwise (takeVacant u d m)
-      go nothing = refused-otherwise Full (λ e. omega arith)
-      go (just f) = accepted-otherwise
+      go : (m : Maybe Field) → Behind u (takeVacant u d m)
+      go nothing = refused Full (λ e. omega arith)
+      go (just f) = accepted
 
-  oldest-otherwise : (ds : List NodeId) → Otherwise (takeOldest u ds)
-  oldest-otherwise [] = accepted-otherwise
-  oldest-otherwise (d ∷ ds) = accepted-otherwise
+  oldest : (ds : List NodeId) → Behind u (takeOldest u ds)
+  oldest [] = accepted
+  oldest (d ∷ ds) = accepted
 
-  change-otherwise : (c : Change) → changeStep u c .number ≡ 1 → ⊥
-  unfolding tree.remove tree.setStyle tree.setStateTable tree.setPatchPool tree.makeField tree.solve desk.handle desk.nextOutput
-  change-otherwise (remove d) = live-otherwise {A = ℕ} d 0 (either-otherwise (same (d .index) 0) (refused-otherwise Root (λ e. omega arith)) accepted-otherwise) .not-by-1
-  change-otherwise (setStyle d s) = live-otherwise {A = ℕ} d 0 accepted-otherwise .not-by-1
-  change-otherwise (setStateTable d table) =
-      live-otherwise {A = ℕ} d 0 (either-otherwise (all (inPool (u .«patch_count»)) table) accepted-otherwise (refused-otherwise Foreign (λ e. omega arith))) .not-by-1
-  change-otherwise (setPatchPool patches count) = guarded-otherwise {A = ℕ} 0 (either-otherwise (ltb 64 count) (refused-otherwise Long (λ e. omega arith)) accepted-otherwise) .not-by-1
-  change-otherwise (makeField d) = live-otherwise {A = ℕ} d 0 (field-otherwise d (fieldOf d (u .fields))) .not-by-1
-  change-otherwise (solve v) = guarded-otherwise {A = ℕ} 0 (either-otherwise (not (u .dirty) && sameView (u .«solved_for») v) accepted-otherwise accepted-otherwise) .not-by-1
-  change-otherwise (handle e) = guarded-otherwise {A = ℕ} 0 accepted-otherwise .not-by-1
-  change-otherwise nextOutput = guarded-otherwise Absent (oldest-otherwise (waitingOf u)) .not-by-1
-
-  question-otherwise : (q : Question) → numberAsked u q ≡ 1 → ⊥
-  unfolding tree.fieldText tree.fieldCursor desk.metres tree.rect tree.live tree.firstChild tree.nextSibling desk.absorb fieldMetres
-  question-otherwise (fieldText d) = read-otherwise d noText (λ f. gives u (shown f)) (λ f _. accepted-otherwise) .not-by-1
-  question-otherwise (fieldCursor d) = read-otherwise d 0 (λ f. gives u (f .cursor)) (λ f _. accepted-otherwise) .not-by-1
-  question-otherwise (metres d) = read-otherwise d 0 (λ f. record { next = u; answer = fieldMetres f }) (λ f r. record { not-by-1 = rw r (metres-are-not-by-1 (held f)) }) .not-by-1
-  question-otherwise (rect d) = live-otherwise d noRect accepted-otherwise .not-by-1
-  question-otherwise (live d) = guarded-otherwise false accepted-otherwise .not-by-1
-  question-otherwise (firstChild d) = guarded-otherwise Absent accepted-otherwise .not-by-1
-  question-otherwise (nextSibling d) = live-otherwise d Absent accepted-otherwise .not-by-1
-  question-otherwise (absorb s) = guarded-otherwise {A = ℕ} 0 accepted-otherwise .not-by-1
-
-  insert-otherwise : (d : NodeId) → Otherwise (tree.insert u d)
+  insert-is-fair : (d : NodeId) → FairCall u (tree.insert u d)
   unfolding tree.insert
-  insert-otherwise d = live-otherwise d nobody (either-otherwise (same (u .free) NIL) (refused-otherwise Full (λ e. omega arith)) accepted-otherwise)
+  insert-is-fair d = live-is-fair d nobody (either (same (u .free) NIL) (refused Full (λ e. omega arith)) accepted)
 
-  call-otherwise : (c : Call) → step u c .number ≡ 1 → ⊥
+  change-is-fair : (c : Change) → Fair u (changeStep u c .number) (changeStep u c .next)
+  unfolding tree.remove tree.setStyle tree.setStateTable tree.setPatchPool tree.makeField tree.solve desk.handle desk.nextOutput
+  change-is-fair (remove d) = live-is-fair {A = ℕ} d 0 (either (same (d .index) 0) (refused Root (λ e. omega arith)) accepted)
+  change-is-fair (setStyle d s) = live-is-fair {A = ℕ} d 0 accepted
+  change-is-fair (setStateTable d table) = live-is-fair {A = ℕ} d 0 (either (all (inPool (u .«patch_count»)) table) accepted (refused Foreign (λ e. omega arith)))
+  change-is-fair (setPatchPool patches count) = guarded-is-fair {A = ℕ} 0 (either (ltb 64 count) (refused Long (λ e. omega arith)) accepted)
+  change-is-fair (makeField d) = live-is-fair {A = ℕ} d 0 (taken d (fieldOf d (u .fields)))
+  change-is-fair (solve v) = guarded-is-fair {A = ℕ} 0 (either (not (u .dirty) && sameView (u .«solved_for») v) accepted accepted)
+  change-is-fair (handle e) = guarded-is-fair {A = ℕ} 0 accepted
+  change-is-fair nextOutput = guarded-is-fair Absent (oldest (waitingOf u))
+
+  -- a read leaves the tree as it is
+  asked : {n : ℕ} {v : Ui} → Fair u n v → Fair u n u
+  asked f = record { back = λ _. refl; by-1 = f .by-1; not-by-1 = f .not-by-1 }
+
+  question-is-fair : (q : Question) → Fair u (numberAsked u q) u
+  unfolding tree.fieldText tree.fieldCursor desk.metres tree.rect tree.live tree.firstChild tree.nextSibling desk.absorb fieldMetres
+  question-is-fair (fieldText d) = asked (read-is-fair d noText (λ f. gives u (shown f)) (λ f _. accepted))
+  question-is-fair (fieldCursor d) = asked (read-is-fair d 0 (λ f. gives u (f .cursor)) (λ f _. accepted))
+  question-is-fair (metres d) =
+      asked (read-is-fair d 0 (λ f. record { next = u; answer = fieldMetres f }) (λ f r. record { back = λ _. refl; not-by-1 = λ b. rw (r b) (metres-are-not-by-1 (held f)) }))
+  question-is-fair (rect d) = asked (live-is-fair d noRect accepted)
+  question-is-fair (live d) = asked (guarded-is-fair false accepted)
+  question-is-fair (firstChild d) = asked (guarded-is-fair Absent accepted)
+  question-is-fair (nextSibling d) = asked (live-is-fair d Absent accepted)
+  question-is-fair (absorb s) = asked (guarded-is-fair {A = ℕ} 0 accepted)
+
+  call-is-fair : (c : Call) → Fair u (step u c .number) (step u c .next)
   unfolding step
-  call-otherwise (insert d) = insert-otherwise d .not-by-1
-  call-otherwise (change c) = change-otherwise c
-  call-otherwise (ask q) = question-otherwise q
+  call-is-fair (insert d) = insert-is-fair d
+  call-is-fair (change c) = change-is-fair c
+  call-is-fair (ask q) = question-is-fair q
+
+-- ---- the laws
+
+pub a-refused-call-changes-nothing : ARefusedCallChangesNothing
+a-refused-call-changes-nothing u c = call-is-fair u c .back
+
+pub a-broken-tree-is-refused : ABrokenTreeIsRefused
+a-broken-tree-is-refused u c b =
+    let f = call-is-fair u c in
+    let e = f .by-1 b in
+    (e, f .back (λ z. omega arith))
 
 pub only-a-broken-tree-is-refused-by-1 : OnlyABrokenTreeIsRefusedBy1
-only-a-broken-tree-is-refused-by-1 u c e = bool-cases (broken u) (λ b. b) (λ b. absurd (call-otherwise u b c e))
+only-a-broken-tree-is-refused-by-1 u c e = bool-cases (broken u) (λ b. b) (λ b. absurd (call-is-fair u c .not-by-1 b e))

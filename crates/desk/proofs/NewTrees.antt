@@ -4,13 +4,9 @@ use mathlib.Core.Bool.{Bool, true, false}
 use mathlib.Core.List.{List, [], _∷_}
 use Prim.Native.Nat.{ℕ, zero, suc}
 use lib.ListN.{length, replicate}
-use Rattle.field.specs.declared.Field.{Field}
 use Rattle.arithmetic.specs.Tests.{same, all}
 use Rattle.arithmetic.proofs.TestLaws.{same-refl}
-use Rattle.tree.specs.Slots.{Slots}
 use Rattle.tree.specs.Styles.{freshState}
-use Rattle.tree.specs.Forest.{Forest}
-use Rattle.tree.specs.Nodes.{Info}
 use Rattle.tree.specs.Broken.{broken}
 use Rattle.tree.specs.Calls as tree
 use Rattle.tree.specs.Calls.{fresh}
@@ -18,7 +14,7 @@ use Rattle.tree.specs.Types.{StateSlot}
 use Rattle.tree.specs.History.{Call, limitFrom}
 use Rattle.tree.specs.declared.Ui.{Ui}
 use Rattle.arithmetic.proofs.BoolLaws.{no-more}
-use Rattle.tree.proofs.Relation.{AllFields, Ruled}
+use Rattle.tree.proofs.Relation.{what-follows-of-each}
 use Rattle.tree.proofs.KeptTrees.{FieldKept, Kept, a-kept-tree-is-not-broken}
 use Rattle.desk.specs.Demand3.{step, numbers, Machines}
 use Rattle.desk.specs.CallLaws.{MachineTree, TheNewTreeIsNotBroken}
@@ -36,10 +32,6 @@ fresh-tables : (n : ℕ) → all (λ (s : StateSlot). same (length (s .table)) 1
 unfolding fresh
 fresh-tables n = all-of-one (λ (s : StateSlot). same (length (s .table)) 16) freshState 128 (same-refl 16)
 
-ruled-is-kept : (s : Slots) (t : Forest Info) (fs : List Field) → AllFields (Ruled s t) fs → AllFields FieldKept fs
-ruled-is-kept s t [] q = tt
-ruled-is-kept s t (f ∷ fs) q = ((q .0 .0, q .0 .1), ruled-is-kept s t fs (q .1))
-
 pub the-new-tree-is-not-broken : TheNewTreeIsNotBroken
 the-new-tree-is-not-broken limit =
     let u : Ui = tree.newTree limit .next in
@@ -53,7 +45,7 @@ the-new-tree-is-not-broken limit =
         stated = v .styling .styled .stated-long;
         outputs = v .queue .long;
         fields = v .nodes .texts .eight;
-        bytes = all-bytes (u .fields) (ruled-is-kept _ _ (u .fields) (v .nodes .texts .ruled));
+        bytes = all-bytes (u .fields) (what-follows-of-each {Q = FieldKept} (λ f r. (r .0, r .1)) (u .fields) (v .nodes .texts .ruled));
       },
       sound v,
     )

@@ -79,9 +79,7 @@ kept-if-not-broken u m b =
     let ls = m .states in
     let sm = r .few-nodes in
     record {
-      some = r .some-nodes;
-      small = r .few-nodes;
-      links = record { long = m .slots; well = r .links };
+      links = record { some = r .some-nodes; small = r .few-nodes; long = m .slots; well = r .links };
       looks = record {
         sized = (m .layout, m .states);
         tables = each-table (u .states) (m .states) (m .tables);
@@ -110,7 +108,7 @@ machine-if-kept u k = record {
 
 module _ {u : Ui} (k : Kept u) where
   waiting-fits : length (waitingOf u) ≡ u .«output_count»
-  waiting-fits = let a = k .queue .few in let b = k .queue .long in let c = k .small in length-take-le (u .«output_count») (u .outputs) (omega arith)
+  waiting-fits = let a = k .queue .few in let b = k .queue .long in let c = k .links .small in length-take-le (u .«output_count») (u .outputs) (omega arith)
 
   activation-keeps : (d : NodeId) → Kept (activate u d)
   unfolding activate
@@ -152,7 +150,7 @@ module _ {u : Ui} (k : Kept u) where
   unfolding isLive
   live-is-a-slot d e =
       let b = ltb-true (d .index) (limitOf u) (and-left (ltb (d .index) (limitOf u)) _ e) in
-      let m = k .small in omega arith
+      let m = k .links .small in omega arith
 
   insert-keeps : (d : NodeId) → Keeps (tree.insert u d)
   unfolding tree.insert

@@ -4,7 +4,6 @@ use mathlib.Core.Bool.{Bool}
 use Prim.Native.Nat.{ℕ}
 use Rattle.text.specs.Refusal.{Answer}
 use Rattle.field.specs.declared.MaybeId.{MaybeId}
-use Rattle.field.specs.declared.MaybeId.the-variants.{Absent}
 use Rattle.arithmetic.specs.Tests.{same}
 use Rattle.tree.specs.Calls as tree
 use Rattle.tree.specs.Calls.{Outcome}

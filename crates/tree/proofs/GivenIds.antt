@@ -16,7 +16,7 @@ use Rattle.arena.specs.Slots.{Slots, at, idAt, isId}
 use Rattle.arena.specs.Fields.{fieldOf}
 use Rattle.arithmetic.proofs.TestLaws.{eq-cases, same-no}
 use Rattle.arena.proofs.Forests.ForestLaws.{cnt}
-use Rattle.tree.proofs.Relation.{Below, BelowMaybe, Ruled, AllFields}
+use Rattle.tree.proofs.Relation.{Below, BelowMaybe, Ruled, AllFields, what-follows-of-each}
 
 -- no epoch falls
 abbrev pub NoEpochFalls : Slots → Forest Info → Slots → Forest Info → Type 0
@@ -31,8 +31,7 @@ module _ (a : Slots) (t : Forest Info) (b : Slots) (t′ : Forest Info) (h : NoE
   given-owners-stay-given (Present d) q = given-ids-stay-given d q
 
   pub ruled-fields-stay-ruled : (fs : List Field) → AllFields (Ruled a t) fs → AllFields (Ruled b t′) fs
-  ruled-fields-stay-ruled [] q = tt
-  ruled-fields-stay-ruled (f ∷ fs) q = ((q .0 .0, q .0 .1, given-owners-stay-given (f .owner) (q .0 .2)), ruled-fields-stay-ruled fs (q .1))
+  ruled-fields-stay-ruled fs q = what-follows-of-each {P = Ruled a t} {Q = Ruled b t′} (λ f r. (r .0, r .1, given-owners-stay-given (f .owner) (r .2))) fs q
 
 module _ (a : Slots) (t : Forest Info) (i : ℕ) (z : cnt i t ≡ 0) where
   pub a-given-id-is-not-a-free-slots : (d : NodeId) → Below a t d → d ≡ idAt a i → ⊥

@@ -43,7 +43,7 @@ module _ {u : Ui} (k : Kept u) where
       let H = the-forest-that-the-links-hold in
       let c = one-node-has-a-live-id d live in
       let i : ℕ = u .free in
-      let m = k .small in
+      let m = k .links .small in
       let ls = k .looks .sized .1 in
       let ll = k .looks .sized .0 in
       free-cases (limitOf u) (u .slots) (u .free) (H .forest) (H .chained) (H .rel) (λ e _ _. absurd (f e)) (λ rest _ r _ _.
@@ -53,13 +53,11 @@ module _ {u : Ui} (k : Kept u) where
       let z = insert-size (d .index) i (at (u .slots) i .generation) tt (H .forest) c in
       let n = H .count in
       record {
-        some = k .some;
-        small = k .small;
         stated = k .stated;
         pool = k .pool;
         queue = k .queue;
         fields = k .fields;
-        links = record { long = R .len; well = links-are-well (limitOf u) _ _ _ _ rest R (omega arith) };
+        links = record { some = k .links .some; small = k .links .small; long = R .len; well = links-are-well (limitOf u) _ _ _ _ rest R (omega arith) };
         looks = record {
           sized = (length-set (u .layout) i freshLayout ∙ ll, length-set (u .states) i freshState ∙ ls);
           tables = a-stored-state-keeps-of-each Tabled 128 (u .states) i freshState (omega arith) refl (k .looks .tables);
@@ -74,18 +72,16 @@ module _ {u : Ui} (k : Kept u) where
       let R = removed-from-the-forest u (k .links .long) (a-kept-tree-is-not-broken k) d live nz in
       let o : List ℕ = freeOrder 128 (unlink (u .slots) (d .index)) (d .index) in
       let z = R .sizes in
-      let m = k .small in
+      let m = k .links .small in
       let n = H .count in
       let ls = k .looks .sized .1 in
       let c : u .live - length o ≡ size (cut (d .index) (H .forest)) = omega arith in
       record {
-        some = k .some;
-        small = k .small;
         stated = k .stated;
         pool = k .pool;
         queue = k .queue;
         fields = k .fields;
-        links = record { long = R .rel .len; well = links-are-well (limitOf u) _ _ _ _ _ (R .rel) c };
+        links = record { some = k .links .some; small = k .links .small; long = R .rel .len; well = links-are-well (limitOf u) _ _ _ _ _ (R .rel) c };
         looks = record {
           sized = (k .looks .sized .0, reset-states-are-as-many (u .states) o ∙ ls);
           tables = reset-states-keep-of-each Tabled 128 (u .states) o (omega arith) refl (k .looks .tables);

@@ -2,7 +2,7 @@
 -- its own share of the tree, so that a call's law is about what it changes; the calls that leave the links alone keep every part. Assumes nothing.
 use mathlib.Core.Path.{_≡_, refl, sym, subst, _∙_}
 use mathlib.Core.Bool.{true, false}
-use mathlib.Core.List.{List, [], _∷_, _++_}
+use mathlib.Core.List.{List, _++_}
 use Prim.Native.Nat.{ℕ, _≤_, _<_}
 use native.Mathlib.Omega.{arith}
 use lib.ListN.{length, take, drop, length-append, length-drop}
@@ -37,13 +37,15 @@ use Rattle.tree.proofs.StateLaws.{EachState, a-changed-slot-keeps-of-ea
 use Rattle.tree.proofs.WellLaws.{StatesWell, states-well-together, a-styled-tree-is-well, a-tabled-tree-is-well, a-tree-with-a-new-pool-is-well, a-refreshed-tree-is-well}
 use Rattle.tree.proofs.RefreshLaws.{three, distinct-slots-are-below, the-slots-of-a-refresh-are-below-the-limit, what-a-refresh-states}
 use Rattle.tree.proofs.StylingLaws.{style-step, table-step}
-use Rattle.tree.proofs.Relation.{AllFields}
+use Rattle.tree.proofs.Relation.{AllFields, what-follows-of-each}
 use Rattle.tree.proofs.FieldLaws.{a-test-of-each-is-of-all, clearing-keeps-of-each, clearing-keeps-the-number-of-fields, clearing-keeps-owners-apart, clearing-leaves-a-live-nodes-field, a-claim-keeps-of-each, a-claim-keeps-the-number-of-fields, a-claim-keeps-owners-apart, a-nodes-new-field-is-ok, who-has-no-field-owns-nothing}
 use Rattle.tree.proofs.RuleParts.{a-tree-that-keeps-each-rule-is-not-broken}
 
 -- ---- the parts
 
 pub record LinksKept (n : ℕ) (s : Slots) (free live : ℕ) : Type 0 where
+  pub some : 1 ≤ n
+  pub small : n ≤ 128
   pub long : length s ≡ 128
   pub well : linked n s free live ≡ true
 
@@ -79,8 +81,6 @@ pub record FieldsKept (fs : List Field) : Type 0 where
   pub owners : ownersWell fs ≡ true
 
 pub record Kept (u : Ui) : Type 0 where
-  pub some : 1 ≤ limitOf u
-  pub small : limitOf u ≤ 128
   pub links : LinksKept (limitOf u) (u .slots) (u .free) (u .live)
   pub looks : LooksKept (limitOf u) (u .«patch_count») (appearanceOf u)
   pub stated : StatedKept (limitOf u) (u .stated) (u .«stated_count»)
@@ -91,10 +91,10 @@ pub record Kept (u : Ui) : Type 0 where
 pub a-kept-tree-is-not-broken : {u : Ui} → Kept u → broken u ≡ false
 a-kept-tree-is-not-broken {u} k =
     let ls = k .looks .sized .1 in
-    let sm = k .small in
+    let sm = k .links .small in
     a-tree-that-keeps-each-rule-is-not-broken u (record {
-      some-nodes = k .some;
-      few-nodes = k .small;
+      some-nodes = k .links .some;
+      few-nodes = k .links .small;
       few-patches = k .pool .few;
       links = k .links .well;
       states = states-well-together (u .«patch_count») (limitOf u) (u .states) (omega arith) (k .looks .well);
@@ -102,15 +102,8 @@ a-kept-tree-is-not-broken {u} k =
       stated-once = k .stated .each-once;
       few-waiting = k .queue .few;
       owners = k .fields .owners;
-      fields = each-ok (u .fields) (k .fields .ruled);
+      fields = a-test-of-each-is-of-all fieldOk (u .fields) (what-follows-of-each {P = FieldKept} {Q = λ f. fieldOk f ≡ true} (λ f r. r .0) (u .fields) (k .fields .ruled));
     })
-  where
-    each-ok : (fs : List Field) → AllFields FieldKept fs → all fieldOk fs ≡ true
-    each-ok fs r = a-test-of-each-is-of-all fieldOk fs (go fs r)
-      where
-        go : (gs : List Field) → AllFields FieldKept gs → AllFields (λ f. fieldOk f ≡ true) gs
-        go [] q = tt
-        go (g ∷ gs) q = (q .0 .0, go gs (q .1))
 
 -- ---- one part changes
 
@@ -118,7 +111,7 @@ module _ {u : Ui} (k : Kept u) where
   -- a base style, and a table
   other-looks-keep-the-tree : (a : Appearance) → LooksKept (limitOf u) (u .«patch_count») a → Kept (withStyles u (a .layout) (a .states) (a .dirty))
   unfolding withStyles
-  other-looks-keep-the-tree a l = record { some = k .some; small = k .small; links = k .links; looks = l; stated = k .stated; pool = k .pool; queue = k .queue; fields = k .fields }
+  other-looks-keep-the-tree a l = record { links = k .links; looks = l; stated = k .stated; pool = k .pool; queue = k .queue; fields = k .fields }
 
   pub a-style-keeps-the-tree : (i : ℕ) → i < 128 → (y : Style) → Kept (styledAt u i y)
   unfolding styledAt withStyles
@@ -145,19 +138,17 @@ module _ {u : Ui} (k : Kept u) where
   unfolding pooled withPool withStyles distinct
   a-pool-keeps-the-tree patches count l few =
       let is : List ℕ = fromTo 0 (limitOf u) in
-      let m = k .small in
+      let m = k .links .small in
       let b : Inside is = λ i z. let q = occurs-below (limitOf u) i z in omega arith in
       let e = bare-all-is-a-round (appearanceOf u) is in
       record {
-        some = k .some;
-        small = k .small;
         links = k .links;
         queue = k .queue;
         fields = k .fields;
         looks = record {
           sized = subst Sized (sym e) (a-round-keeps-lengths bareStep (appearanceOf u) is b (k .looks .sized));
           tables = subst (λ (a : Appearance). EachState Tabled 128 (a .states)) (sym e) (a-round-keeps-of-each Tabled 128 bareStep (appearanceOf u) is b (k .looks .sized) (λ _ _ _. refl) (k .looks .tables));
-          well = a-tree-with-a-new-pool-is-well u patches count (k .small) (k .looks .sized);
+          well = a-tree-with-a-new-pool-is-well u patches count (k .links .small) (k .looks .sized);
         };
         stated = record { long = k .stated .long; few = omega arith; each-once = refl };
         pool = record { long = l; few = few };
@@ -167,14 +158,12 @@ module _ {u : Ui} (k : Kept u) where
   pub a-refresh-keeps-the-tree : (hover : MaybeId) → Kept (refreshed u hover)
   unfolding refreshed withStated withStyles
   a-refresh-keeps-the-tree hover =
-      let m = k .small in
+      let m = k .links .small in
       let sb = distinct-slots-are-below (limitOf u) (statedOf u) (k .stated .each-once) in
       let b : Inside (backwards (statedOf u) ++ three u hover) = λ j z. let h = the-slots-of-a-refresh-are-below-the-limit u hover sb j z in omega arith in
       let e = wear-all-is-a-round (poolOf u) (bitsAt u hover) (appearanceOf u) (backwards (statedOf u) ++ three u hover) in
       let T = what-a-refresh-states u hover (k .stated .long) in
       record {
-        some = k .some;
-        small = k .small;
         links = k .links;
         pool = k .pool;
         queue = k .queue;
@@ -183,7 +172,7 @@ module _ {u : Ui} (k : Kept u) where
           sized = subst Sized (sym e) (a-round-keeps-lengths (wearStep (poolOf u) (bitsAt u hover)) (appearanceOf u) (backwards (statedOf u) ++ three u hover) b (k .looks .sized));
           tables = subst (λ (a : Appearance). EachState Tabled 128 (a .states)) (sym e)
               (a-round-keeps-of-each Tabled 128 (wearStep (poolOf u) (bitsAt u hover)) (appearanceOf u) (backwards (statedOf u) ++ three u hover) b (k .looks .sized) (λ _ _ v. v) (k .looks .tables));
-          well = a-refreshed-tree-is-well (u .«patch_count») (limitOf u) u hover (k .small) (k .looks .sized) sb (k .looks .well);
+          well = a-refreshed-tree-is-well (u .«patch_count») (limitOf u) u hover (k .links .small) (k .looks .sized) sb (k .looks .well);
         };
         stated = record { long = T .long; few = T .few; each-once = T .each-once };
       }
@@ -192,8 +181,6 @@ module _ {u : Ui} (k : Kept u) where
   pub a-pass-keeps-the-tree : (v : Viewport) → Kept (withPass u (passed (u .slots) (u .layout) v) v)
   unfolding withPass
   a-pass-keeps-the-tree v = record {
-    some = k .some;
-    small = k .small;
     links = k .links;
     stated = k .stated;
     pool = k .pool;
@@ -208,24 +195,22 @@ module _ {u : Ui} (k : Kept u) where
 
   pub other-fields-keep-the-tree : (fs : List Field) → FieldsKept fs → Kept (withFields u fs)
   unfolding withFields
-  other-fields-keep-the-tree fs f = record { some = k .some; small = k .small; links = k .links; looks = k .looks; stated = k .stated; pool = k .pool; queue = k .queue; fields = f }
+  other-fields-keep-the-tree fs f = record { links = k .links; looks = k .looks; stated = k .stated; pool = k .pool; queue = k .queue; fields = f }
 
   pub another-interaction-keeps-the-tree : (a : Interaction) → Kept (withInteraction u a)
   unfolding withInteraction
-  another-interaction-keeps-the-tree a = record { some = k .some; small = k .small; links = k .links; looks = k .looks; stated = k .stated; pool = k .pool; queue = k .queue; fields = k .fields }
+  another-interaction-keeps-the-tree a = record { links = k .links; looks = k .looks; stated = k .stated; pool = k .pool; queue = k .queue; fields = k .fields }
 
   pub other-outputs-keep-the-tree : (ds : List NodeId) → length ds ≤ limitOf u → Kept (withWaiting u ds)
   unfolding withWaiting
   other-outputs-keep-the-tree ds b = record {
-    some = k .some;
-    small = k .small;
     links = k .links;
     looks = k .looks;
     stated = k .stated;
     pool = k .pool;
     fields = k .fields;
     queue = record {
-      long = let a = length-append ds (drop (length ds) (u .outputs)) in let c = length-drop (length ds) (u .outputs) in let l = k .queue .long in let m = k .small in omega arith;
+      long = let a = length-append ds (drop (length ds) (u .outputs)) in let c = length-drop (length ds) (u .outputs) in let l = k .queue .long in let m = k .links .small in omega arith;
       few = b;
     };
   }

@@ -1,7 +1,7 @@
 -- A tree of which the parts hold keeps the link rules, one by one, so that no call refuses it as broken. Assumes nothing.
-use mathlib.Core.Path.{_≡_, refl}
+use mathlib.Core.Path.{_≡_}
 use mathlib.Core.Bool.{true, false}
-use mathlib.Core.List.{List, [], _∷_}
+use mathlib.Core.List.{List}
 use Prim.Native.Nat.{ℕ}
 use native.Mathlib.Omega.{arith}
 use Rattle.field.specs.Fields.{fieldOk}
@@ -13,15 +13,15 @@ use Rattle.arena.specs.Slots.{Slots}
 use Rattle.tree.specs.Broken.{broken}
 use Rattle.tree.specs.Trees.{limitOf}
 use Rattle.tree.specs.declared.Ui.{Ui}
-use Rattle.arena.proofs.Checks.RuleLaws.{both-true, links-are-well}
+use Rattle.arena.proofs.Checks.RuleLaws.{links-are-well}
 use Rattle.tree.proofs.RuleParts.{a-tree-that-keeps-each-rule-is-not-broken}
 use Rattle.tree.proofs.WellLaws.{states-well-together}
+use Rattle.tree.proofs.FieldLaws.{a-test-of-each-is-of-all}
 use Rattle.arena.proofs.Forests.Ids.{limit-is-positive}
-use Rattle.tree.proofs.Relation.{Ruled, AllFields, Links, Styled, Pool, Texts, Queue}
+use Rattle.tree.proofs.Relation.{Ruled, AllFields, Links, Styled, Pool, Texts, Queue, what-follows-of-each}
 
 pub ruled-fields-keep-the-rules : (s : Slots) (t : Forest Info) (fs : List Field) → AllFields (Ruled s t) fs → all fieldOk fs ≡ true
-ruled-fields-keep-the-rules s t [] q = refl
-ruled-fields-keep-the-rules s t (f ∷ fs) q = both-true (fieldOk f) (all fieldOk fs) (q .0 .0) (ruled-fields-keep-the-rules s t fs (q .1))
+ruled-fields-keep-the-rules s t fs q = a-test-of-each-is-of-all fieldOk fs (what-follows-of-each {P = Ruled s t} {Q = λ f. fieldOk f ≡ true} (λ f r. r .0) fs q)
 
 pub not-broken : {k : ℕ} {u : Ui} {t : Forest Info} → Links k u t → Styled u t → Pool u → Texts (u .slots) (u .fields) t → Queue u → broken u ≡ false
 not-broken {k} {u} {t} L D P X Q =

@@ -3,12 +3,12 @@
 -- in order. Assumes nothing.
 use mathlib.Core.Path.{_≡_, refl, sym, ap, _∙_, subst}
 use mathlib.Core.Bool.{Bool, true, false, cond}
-use mathlib.Core.List.{List, [], _∷_, _++_}
+use mathlib.Core.List.{List, [], _∷_}
 use Prim.Native.Nat.{ℕ, zero, suc, _-_, _≤_, _<_}
 use native.Mathlib.Omega.{arith}
-use lib.ListN.{length, replicate}
+use lib.ListN.{length}
 use Rattle.text.specs.Refusal.{Answer, accepted, refused}
-use Rattle.text.specs.declared.refusal.Refusal.the-variants.{Missing, Fieldless}
+use Rattle.text.specs.declared.refusal.Refusal.the-variants.{Missing}
 use Rattle.field.specs.Text.{Text, bytesOf, caretOf}
 use Rattle.field.specs.Fields.{fieldOk, shownOf, textOf}
 use Rattle.field.specs.Metres.{metresOf, fieldMetres}

@@ -75,6 +75,10 @@ abbrev pub AllFields : (Field → Type 0) → List Field → Type 0
 AllFields P [] = Unit {0}
 AllFields P (f ∷ fs) = P f × AllFields P fs
 
+pub what-follows-of-each : {P Q : Field → Type 0} → ((f : Field) → P f → Q f) → (fs : List Field) → AllFields P fs → AllFields Q fs
+what-follows-of-each h [] q = tt
+what-follows-of-each h (f ∷ fs) q = (h f (q .0), what-follows-of-each h fs (q .1))
+
 abbrev pub textIn : Maybe Field → Maybe Text
 textIn nothing = nothing
 textIn (just f) = just (textOf f)

@@ -82,19 +82,15 @@ module _ {k : ℕ} {u : Ui} {t : Forest Info} (L : Links k u t) (small : k < 2 ^
   gone : Removed (limitOf u) (u .slots) (u .free) t (L .chain) (d .index)
   gone = remove-rel (limitOf u) (u .slots) (u .free) t (L .chain) (d .index) (L .rel) (live-id (L .rel) d h .0) nz
 
-  whole-order : freeing (unlink (u .slots) (d .index)) (d .index) ≡ freedBy u d
-  unfolding freeing
-  whole-order = refl
-
   -- each slot freed had a node that leaves
   pub the-slots-freed-are-those-that-leave : (j : ℕ) → occ j (freedBy u d) + cnt j (cutOf d t) ≡ cnt j t
   the-slots-freed-are-those-that-leave j = rw by-index (gone .order-counts j)
 
   pub a-removal-keeps-every-epoch : (j : ℕ) → at (removeAt u (d .index) .slots) j .generation + cnt j (cutOf d t) ≡ at (u .slots) j .generation + cnt j t
-  unfolding removeAt withNodes
+  unfolding removeAt withNodes freeing
   a-removal-keeps-every-epoch j =
       let y = L .young j in
-      rw (by-index, whole-order) (remove-keeps-epochs (L .rel) (d .index) (live-id (L .rel) d h .0) nz j (omega arith))
+      rw by-index (remove-keeps-epochs (L .rel) (d .index) (live-id (L .rel) d h .0) nz j (omega arith))
 
   pub no-epoch-falls-by-a-removal : NoEpochFalls (u .slots) t (removeAt u (d .index) .slots) (cutOf d t)
   no-epoch-falls-by-a-removal j = let e = a-removal-keeps-every-epoch j in omega arith
@@ -110,12 +106,12 @@ module _ {k : ℕ} {u : Ui} {t : Forest Info} (L : Links k u t) (small : k < 2 ^
   remove-keeps-all P q = rw by-index (all-cut P (d .index) t q)
 
   pub remove-keeps-links : Links (suc k) (removeAt u (d .index)) (cutOf d t)
-  unfolding removeAt withNodes
+  unfolding removeAt withNodes freeing
   remove-keeps-links =
       let R = gone in
       let n = L .count in
       let z = R .sizes in
-      rw (by-index, whole-order) record {
+      rw by-index record {
         chain = pushed (freedBy u d) (L .chain);
         rel = R .rel;
         count = omega arith;
@@ -130,13 +126,13 @@ module _ {k : ℕ} {u : Ui} {t : Forest Info} (L : Links k u t) (small : k < 2 ^
   }
 
   pub remove-keeps-styling : Styled u t → Styled (removeAt u (d .index)) (cutOf d t)
-  unfolding removeAt withNodes
+  unfolding removeAt withNodes freeing
   remove-keeps-styling D =
       let o : List ℕ = freedBy u d in
       let s : List StateSlot = u .states in
       let ls = D .sized .1 in
       let sm = L .rel .small in
-      rw whole-order record {
+      record {
         sized = (D .sized .0, reset-states-are-as-many s o ∙ ls);
         worn = all-map (λ j g x. Worn (u .layout) s j x) (λ j g x. Worn (u .layout) (resetStates s o) j x) (cutOf d t)
             (λ j g x c w. let e = the-slots-freed-are-those-that-leave j in let q = once (L .rel) j in (w .0, states-not-reset-stay s o j (omega arith) ∙ w .1))

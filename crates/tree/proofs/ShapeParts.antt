@@ -1,6 +1,6 @@
 -- A call that leaves slots and shape alone keeps links, names and fields: counts see nothing of what is known of a node. Assumes nothing.
 use mathlib.Core.Path.{_≡_, sym, ap, _∙_}
-use mathlib.Core.List.{List, [], _∷_}
+use mathlib.Core.List.{List}
 use Prim.Native.Nat.{ℕ, suc, _<_}
 use native.Mathlib.Omega.{arith}
 use lib.ListN.{length, getD}
@@ -15,7 +15,7 @@ use Rattle.arena.specs.Fields.{fieldOf}
 use Rattle.tree.specs.Trees.{limitOf}
 use Rattle.tree.specs.declared.Ui.{Ui}
 use Rattle.arena.proofs.Forests.Payloads.{AllF, shape, shape-size, cnt-shape, rel-shape}
-use Rattle.tree.proofs.Relation.{Below, BelowMaybe, Links, Naming, Ruled, AllFields, textIn, Texts}
+use Rattle.tree.proofs.Relation.{Below, BelowMaybe, Links, Naming, Ruled, AllFields, textIn, Texts, what-follows-of-each}
 
 pub links-after : (k : ℕ) (u : Ui) (t : Forest Info) → Links k u t → Links (suc k) u t
 links-after k u t h = record { chain = h .chain; rel = h .rel; count = h .count; young = λ j. let q = h .young j in omega arith }
@@ -49,8 +49,7 @@ module _ (t t′ : Forest Info) (e : shape t ≡ shape t′) where
   }
 
   pub ruled-by-shape : (s : Slots) (fs : List Field) → AllFields (Ruled s t) fs → AllFields (Ruled s t′) fs
-  ruled-by-shape s [] h = tt
-  ruled-by-shape s (f ∷ fs) h = ((h .0 .0, h .0 .1, below-maybe-by-shape s (f .owner) (h .0 .2)), ruled-by-shape s fs (h .1))
+  ruled-by-shape s fs h = what-follows-of-each {P = Ruled s t} {Q = Ruled s t′} (λ f r. (r .0, r .1, below-maybe-by-shape s (f .owner) (r .2))) fs h
 
   pub texts-by-shape : (s : Slots) (fields : List Field) → Texts s fields t
       → AllF (λ i g x. x .text ≡ textIn (fieldOf (record { index = i; generation = g }) fields)) t′ → Texts s fields t′

@@ -9,7 +9,7 @@ use Rattle.field.specs.declared.NodeId.{NodeId}
 use Rattle.field.specs.declared.MaybeId.{MaybeId}
 use Rattle.field.specs.declared.MaybeId.the-variants.{Absent, Present}
 use Rattle.arithmetic.specs.Tests.{same}
-use Rattle.arena.specs.Forest.{Forest, nil, node, hasBoth, orId, app, hasId, kidsOf, ids, firstId, nextId}
+use Rattle.arena.specs.Forest.{Forest, nil, node, orId, app, hasId, kidsOf, ids, firstId, nextId}
 use Rattle.arena.specs.Slots.{NIL, Slots, at, idAt, kidsAt}
 use Rattle.arena.specs.declared.Slot.{Slot}
 use Rattle.arithmetic.proofs.TestLaws.{same-no, same-refl, δ-refl, eq-cases, zero-cases}

@@ -1,9 +1,7 @@
 -- Geometry stays just where the styles without their backgrounds are the same. Assumes nothing.
 use mathlib.Core.List.{[]}
 use mathlib.Core.Path.{_≡_, refl, sym, ap, _∙_}
-use mathlib.Core.Bool.{Bool, true, false, _&&_, not}
-use Prim.Native.Nat.{ℕ}
-use native.Mathlib.Omega.{arith}
+use mathlib.Core.Bool.{Bool, true, false, not}
 use lib.IntN.{ℤ, pos, negsuc}
 use Rattle.arithmetic.specs.Tests.{same, sameZ}
 use Rattle.boxes.specs.Geometry.{sameDirection, sameSize, sameAlign, sameEdges, movesGeometry}
