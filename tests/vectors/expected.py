@@ -321,20 +321,25 @@ def asked():
 
 
 def metres(text):
-    if text == "":
+    number = text.strip(" ")
+    if number == "":
         return 9, 0
-    if not re.fullmatch(r"[0-9]{1,3}(\.[0-9]{1,2})?", text):
+    if not re.fullmatch(r"[0-9]{1,3}([.,][0-9]{1,2})?", number):
         return 10, 0
-    whole, _, part = text.partition(".")
+    whole, _, part = number.replace(",", ".").partition(".")
     return 0, int(whole) * 100 + int(part.ljust(2, "0"))
 
 
 def readings():
     heading("Metres: the number of the answer, and centimetres")
     for text in ["", "0", "7", "7.4", "7.40", "007", "999.99", "1000", "7.", ".5", "7.405", "7,4", " 7", "7 ", "-1", "12a",
-                 "12.3a", "7..4", "0.05"]:
+                 "12.3a", "7..4", "0.05", "7,40", "7,", ",5", ",", "7,405", "7,4.0", "7.4,0", "7,4,0", " ", "   ", " 7.4 ",
+                 "  007,5 ", " 0 ", " 1000 ", "7. ", " ,5", "7 4", "7 .4", "7. 4", "7, 4", "\t", "\t7", "7\t"]:
         say('"%s": %d, %d' % ((text,) + metres(text)))
     assert metres("7.4") == metres("7.40") == (0, 740) and metres("7.") == metres("1000") == (10, 0)
+    assert metres("7,40") == metres(" 7.4 ") == (0, 740) and metres("   ") == metres("") == (9, 0)
+    for text in ["7 4", "7,", ",5", "7,4.0", "7 .4"]:
+        assert metres(text) == (10, 0), text
     heading("Widths, in raw units")
     for text in ["", "Hi", "?", "é", "Hé€😀i", "".join(map(chr, range(32, 127)))]:
         say('"%s": %s' % (text, measured(text.encode("utf-8"))))

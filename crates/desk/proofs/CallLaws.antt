@@ -5,18 +5,17 @@ use mathlib.Core.Bool.{Bool, true, false, _&&_, not, cond}
 use mathlib.Core.List.{List, [], _∷_}
 use Prim.Native.Nat.{ℕ}
 use native.Mathlib.Omega.{arith}
-use lib.Dec.{ltb, eqb}
-use lib.ListN.{length, drop}
-use Rattle.text.specs.Steps.{front}
+use lib.Dec.{ltb}
 use Rattle.text.specs.Refusal.{Answer, numberOf}
 use Rattle.text.specs.declared.refusal.Refusal.{Refusal}
 use Rattle.text.specs.declared.refusal.Refusal.the-variants.{Broken, Missing, Full, Root, Foreign, Long, Fieldless}
 use Rattle.field.specs.Fields.{fieldOk, held}
-use Rattle.field.specs.Metres.{isPoint, isDigit, behind, metresOf, fieldMetres}
+use Rattle.field.specs.Metres.{metresOf, fieldMetres}
+use Rattle.field.proofs.Reading.{reading-of}
 use Rattle.field.specs.declared.NodeId.{NodeId}
 use Rattle.field.specs.declared.MaybeId.the-variants.{Absent}
 use Rattle.field.specs.declared.Field.{Field}
-use Rattle.arithmetic.specs.Tests.{same, all, within, Maybe, nothing, just}
+use Rattle.arithmetic.specs.Tests.{same, all, Maybe, nothing, just}
 use Rattle.arithmetic.proofs.BoolLaws.{pick-of, no-more}
 use Rattle.arithmetic.proofs.TestLaws.{bool-cases}
 use Rattle.tree.specs.Slots.{NIL, isLive, nobody}
@@ -59,18 +58,8 @@ record Behind {A : Type 0} (u : Ui) (o : Outcome A) : Type 0 where
 abbrev NotBy1 : Answer ℕ → Type 0
 NotBy1 a = a .number ≡ 1 → ⊥
 
-behind-is-not-by-1 : (v : ℕ) (s : List ℕ) → NotBy1 (behind v s)
-unfolding behind
-behind-is-not-by-1 v [] = λ e. omega arith
-behind-is-not-by-1 v (p ∷ []) = λ e. omega arith
-behind-is-not-by-1 v (p ∷ d ∷ []) = pick-of NotBy1 (isPoint p && isDigit d) (λ _ e. omega arith) (λ _ e. omega arith)
-behind-is-not-by-1 v (p ∷ d ∷ c ∷ []) = pick-of NotBy1 (isPoint p && (isDigit d && isDigit c)) (λ _ e. omega arith) (λ _ e. omega arith)
-behind-is-not-by-1 v (p ∷ d ∷ c ∷ x ∷ s) = λ e. omega arith
-
 metres-are-not-by-1 : (s : List ℕ) → NotBy1 (metresOf s)
-unfolding metresOf
-metres-are-not-by-1 s =
-    pick-of NotBy1 (eqb (length s) 0) (λ _ e. omega arith) (λ _. pick-of NotBy1 (within 1 3 (front isDigit s)) (λ _. behind-is-not-by-1 _ (drop (front isDigit s) s)) (λ _ e. omega arith))
+metres-are-not-by-1 = reading-of NotBy1 (λ v e. omega arith) (λ e. omega arith) (λ e. omega arith)
 
 module _ (u : Ui) where
   accepted : {A : Type 0} {u′ : Ui} {a : A} → Behind u (gives u′ a)

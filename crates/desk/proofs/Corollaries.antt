@@ -5,17 +5,20 @@ use mathlib.Core.List.{List, [], _∷_, _++_}
 use Prim.Native.Nat.{ℕ, suc, _+_, _<_, _^_}
 use native.Mathlib.Omega.{arith}
 use lib.ListN.{length, getD}
-use Rattle.text.specs.Refusal.{Answer, accepted}
+use Rattle.text.specs.Refusal.{Answer, accepted, refused}
+use Rattle.text.specs.declared.refusal.Refusal.the-variants.{Empty}
 use Rattle.text.specs.Utf8.{encodedAll}
-use Rattle.field.specs.Text.{Text, text, bytesOf, caretOf}
-use Rattle.field.specs.Metres.{metresOf}
+use Rattle.field.specs.Text.{Text, text, bytesOf, caretOf, typed, keyed}
+use Rattle.field.specs.Metres.{isSpace, metresOf}
+use Rattle.field.proofs.Blanks.{Blank, typed-blank, keyed-blank, blank-is-empty}
 use Rattle.field.specs.declared.NodeId.{NodeId}
-use Rattle.arithmetic.specs.Tests.{same, Maybe, nothing, just}
+use Rattle.arithmetic.specs.Tests.{same, all, Maybe, nothing, just}
 use Rattle.tree.specs.Forest.{Forest, nil, node, hasBoth, hasId, kidsOf, setKidsOf, cutOf, find}
 use Rattle.tree.specs.Nodes.{Info, withField, changeNamed, changeOf, wears, restyled, withTable, bare}
 use Rattle.tree.specs.Layout.{viewRect, sameView}
 use Rattle.tree.specs.Calls as tree
 use Rattle.tree.specs.declared.Ui.{Ui}
+use Rattle.arithmetic.proofs.BoolLaws.{both}
 use Rattle.arithmetic.proofs.TestLaws.{bool-cases, eq-cases, same-refl}
 use Rattle.tree.proofs.Payloads.{AllF, all-map, all-app, all-both, all-mapF}
 use Rattle.tree.proofs.Ids.{Known, find-known, find-nothing}
@@ -23,11 +26,11 @@ use Rattle.tree.proofs.FieldLaws.{one-id-is-the-other, to-have-an-id-is-to-be-n
 use Rattle.tree.specs.Fields.{fieldOf, noText}
 use Rattle.tree.proofs.Relation.{textIn}
 use Rattle.desk.specs.Events as desk
-use Rattle.tree.specs.History.{History, Call, Change, has, start, refusalOf, refusalOfField, refusalOfChange, afterChange, accept, recorded, grown, keepText, keyText, mapMaybe, refresh, afterEvent, padded, ofText, ofNode, textSaid, caretSaid, metresSaid}
+use Rattle.tree.specs.History.{History, Call, Change, start, refusalOf, refusalOfField, refusalOfChange, afterChange, accept, recorded, grown, keepText, keyText, mapMaybe, refresh, afterEvent, padded, ofText, ofNode, textSaid, caretSaid, metresSaid}
 use Rattle.tree.specs.History.Call.{insert, change, ask}
 use Rattle.tree.specs.History.Change.{remove, setStyle, setStateTable, setPatchPool, makeField, solve, handle, nextOutput}
 use Rattle.desk.specs.Demand3.{step, feed, Machines, follow}
-use Rattle.desk.specs.Keys.{typedOn, textOfKeys, Log, logKey, logEvent, beginAt, logField, loggedChange, logged, logs, noKeys}
+use Rattle.desk.specs.Keys.{typedOn, textOfKeys, isBlank, Log, logKey, logEvent, beginAt, logField, loggedChange, logged, logs, noKeys}
 use Rattle.desk.specs.Corollaries.{newOne, treeAfter, historyAfter, keysAfter, HasField, Corollaries}
 use Rattle.boxes.specs.declared.UiEvent.{UiEvent}
 use Rattle.boxes.specs.declared.UiEvent.the-variants.{PointerMoved, PointerPressed, PointerReleased, TextEntered, Edit}
@@ -45,6 +48,12 @@ use Rattle.tree.specs.Slots.{nobody}
 typed-on-one-more : (t : Text) (ks : List Key) (key : Key) → typedOn t (ks ++ key ∷ []) ≡ keyText key (typedOn t ks)
 typed-on-one-more t [] key = refl
 typed-on-one-more t (k ∷ ks) key = typed-on-one-more (keyText k t) ks key
+
+-- keys that type only spaces leave a text of spaces
+keys-blank : (ks : List Key) (t : Text) → all isBlank ks ≡ true → Blank t → Blank (typedOn t ks)
+keys-blank [] t b k = k
+keys-blank (Char c ∷ ks) t b k = let m = both (isSpace c) (all isBlank ks) b in keys-blank ks (typed c t) (m .1) (typed-blank c (m .0) t k)
+keys-blank (Op op ∷ ks) t b k = keys-blank ks (keyed op t) b (keyed-blank op t k)
 
 -- a node's text is that of its keys
 abbrev ByKeys : Log → ℕ → ℕ → Info → Type 0
@@ -223,7 +232,7 @@ module _ (limit : ℕ) (cs : List Call) (n : length cs < 2 ^ 63) (m : Machines c
   of-keys none read d x f = rw (f .0, text-of-keys d x f (x .text) refl)
 
 pub corollaries : Corollaries
-unfolding start textSaid caretSaid metresSaid metresOf bytesOf caretOf encodedAll
+unfolding start textSaid caretSaid metresSaid bytesOf caretOf encodedAll
 corollaries limit l cs n m =
     let h = demand-3 limit l cs n m in
     let a = h .agree in
@@ -233,6 +242,8 @@ corollaries limit l cs n m =
     λ d x f. a .caret-is d ∙ of-keys limit cs n m 0 _ d x f in
     let metres′ : (d : NodeId) (x : Info) → HasField limit cs d x → desk.metres (treeAfter limit cs) d .answer ≡ metresOf (bytesOf (textOfKeys (keysAfter limit cs (x .name)))) =
     λ d x f. a .metres-are d ∙ of-keys limit cs n m 0 _ d x f in
+    let spaces′ : (d : NodeId) (x : Info) → HasField limit cs d x → all isBlank (keysAfter limit cs (x .name)) ≡ true → desk.metres (treeAfter limit cs) d .answer ≡ refused Empty 0 =
+    λ d x f b. let ks = keysAfter limit cs (x .name) in metres′ d x f ∙ blank-is-empty (textOfKeys ks) (keys-blank ks (text [] []) b (refl, refl)) in
     record {
       no-id-is-given-twice = h .ids-differ;
       number-1-never-comes = let w = the-new-tree-is-not-broken limit in no-call-is-refused-by-1 (newOne limit cs) cs (w .0) (w .1) m;
@@ -242,6 +253,7 @@ corollaries limit l cs n m =
       an-untouched-field-is-empty = λ d x f e. (
         text′ d x f ∙ ap (λ (ks : List Key). accepted (padded (textOfKeys ks))) e,
         caret′ d x f ∙ ap (λ (ks : List Key). accepted (caretOf (textOfKeys ks))) e,
-        metres′ d x f ∙ ap (λ (ks : List Key). metresOf (bytesOf (textOfKeys ks))) e,
+        spaces′ d x f (ap (all isBlank) e),
       );
+      a-field-of-spaces-is-empty = spaces′;
     }

@@ -9,7 +9,7 @@ use Rattle.text.specs.declared.refusal.Refusal.the-variants.{Empty}
 use Rattle.field.specs.Text.{bytesOf, caretOf}
 use Rattle.field.specs.Metres.{metresOf}
 use Rattle.field.specs.declared.NodeId.{NodeId}
-use Rattle.arithmetic.specs.Tests.{just}
+use Rattle.arithmetic.specs.Tests.{just, all}
 use Rattle.tree.specs.Fields.{noText}
 use Rattle.tree.specs.Forest.{find}
 use Rattle.tree.specs.Nodes.{Info, hasField}
@@ -18,7 +18,7 @@ use Rattle.tree.specs.History.{History, Call, start, padded, rootId}
 use Rattle.tree.specs.declared.Ui.{Ui}
 use Rattle.desk.specs.Events as desk
 use Rattle.desk.specs.Demand3.{run, numbers, feed, given, Machines, follow, Distinct}
-use Rattle.desk.specs.Keys.{Log, textOfKeys, logs, noKeys}
+use Rattle.desk.specs.Keys.{Log, textOfKeys, isBlank, logs, noKeys}
 
 -- No number of the list is 1.
 abbrev pub NeverOne : List ℕ → Type 0
@@ -56,6 +56,8 @@ module _ (limit : ℕ) (cs : List Call) where
     -- a field into which no such key fell reads as no text, and its metres are refused by 9, never read as 0
     pub an-untouched-field-is-empty : (d : NodeId) (x : Info) → HasField d x → keysAfter (x .name) ≡ []
         → (tree.fieldText treeAfter d .answer ≡ accepted noText) × (tree.fieldCursor treeAfter d .answer ≡ accepted 0) × (desk.metres treeAfter d .answer ≡ refused Empty 0)
+    -- the metres of a field into which only spaces fell, whatever edits were among them, are refused by 9 too
+    pub a-field-of-spaces-is-empty : (d : NodeId) (x : Info) → HasField d x → all isBlank (keysAfter (x .name)) ≡ true → desk.metres treeAfter d .answer ≡ refused Empty 0
 
 abbrev pub Corollaries : Type 0
 Corollaries = (limit : ℕ) → limit < 2 ^ 32 → (cs : List Call) → length cs < 2 ^ 63 → Machines cs → Follows limit cs

@@ -1,8 +1,9 @@
 -- Demand 3 in a harbour master's words: the keys that made a node's text.
-use mathlib.Core.Bool.{cond}
+use mathlib.Core.Bool.{Bool, true, cond}
 use Prim.Native.Nat.{ℕ}
 use mathlib.Core.List.{List, [], _∷_, _++_}
 use Rattle.field.specs.Text.{Text, text}
+use Rattle.field.specs.Metres.{isSpace}
 use Rattle.field.specs.declared.NodeId.{NodeId}
 use Rattle.arithmetic.specs.Tests.{same, Maybe, nothing, just}
 use Rattle.tree.specs.Forest.{find}
@@ -22,6 +23,11 @@ typedOn t (k ∷ ks) = typedOn (keyText k t) ks
 
 abbrev pub textOfKeys : List Key → Text
 textOfKeys ks = typedOn (text [] []) ks
+
+-- A key that types no character but a space.
+abbrev pub isBlank : Key → Bool
+isBlank (Char c) = isSpace c
+isBlank (Op op) = true
 
 -- The keys of each node, by its name.
 abbrev pub Log : Type 0

@@ -9,9 +9,9 @@ use Rattle.text.specs.Reader.{leadOf, stepOf, runFrom, isUtf8, scalarsFrom, sca
 use Rattle.text.specs.Steps.{front}
 use Rattle.text.specs.Advance.{advances, advanceOf, stopSum, measureOf}
 use Rattle.field.specs.Fields.{inRange, putIn, inserted}
-use Rattle.field.specs.Metres.{valueOf, behind, metresOf}
+use Rattle.field.specs.Metres.{valueOf, behind, plainMetres, trimmed, pointFor, metresOf}
 use Rattle.field.specs.Examples.{Row, rows}
 
 pub examples-hold : map (λ (r : Row). r .given) rows ≡ map (λ (r : Row). r .wanted) rows
-unfolding rows stop addSat sumTo table comesBefore rank growSum wholeShare remainder missing shareWithUnit share planGrowth within isScalar encoded leadOf stepOf runFrom isUtf8 scalarsFrom scalars front advances advanceOf stopSum measureOf inRange putIn inserted valueOf behind metresOf
+unfolding rows stop addSat sumTo table comesBefore rank growSum wholeShare remainder missing shareWithUnit share planGrowth within isScalar encoded leadOf stepOf runFrom isUtf8 scalarsFrom scalars front advances advanceOf stopSum measureOf inRange putIn inserted valueOf behind plainMetres trimmed pointFor metresOf
 examples-hold = refl

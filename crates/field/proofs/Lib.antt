@@ -5,6 +5,9 @@ pub mod Pastes
 pub mod Ranges
 pub mod Inserts
 pub mod Reading
+pub mod Spaces
+pub mod MetresLaws
+pub mod Blanks
 pub mod Parts
 pub mod Edits
 pub mod Laws

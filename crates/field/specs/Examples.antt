@@ -1,4 +1,4 @@
--- Document 01's examples P1 to P12, as rows of one list.
+-- Document 01's examples P1 to P12, and those of document 02, as rows of one list.
 use Prim.Native.Nat.{ℕ, _-_, _*_, _^_}
 use mathlib.Core.List.{List, [], _∷_, _++_, map}
 use lib.IntN.{ℤ, pos}
@@ -57,5 +57,13 @@ rows =
     ∷ record { given = told (metresOf (49 ∷ 48 ∷ 48 ∷ 48 ∷ [])); wanted = numbers (10 ∷ 0 ∷ []) }
     ∷ record { given = told (metresOf []); wanted = numbers (9 ∷ 0 ∷ []) }  -- P11: "" and "0"
     ∷ record { given = told (metresOf (48 ∷ [])); wanted = numbers (0 ∷ 0 ∷ []) }
+    ∷ record { given = told (metresOf (55 ∷ 44 ∷ 52 ∷ 48 ∷ [])); wanted = numbers (0 ∷ 740 ∷ []) }  -- wish 1 of document 02: "7,40" and " 7.4 "
+    ∷ record { given = told (metresOf (32 ∷ 55 ∷ 46 ∷ 52 ∷ 32 ∷ [])); wanted = numbers (0 ∷ 740 ∷ []) }
+    ∷ record { given = told (metresOf (32 ∷ 32 ∷ 32 ∷ [])); wanted = numbers (9 ∷ 0 ∷ []) }  -- three spaces
+    ∷ record { given = told (metresOf (55 ∷ 32 ∷ 52 ∷ [])); wanted = numbers (10 ∷ 0 ∷ []) }  -- "7 4" and "7 .4"
+    ∷ record { given = told (metresOf (55 ∷ 32 ∷ 46 ∷ 52 ∷ [])); wanted = numbers (10 ∷ 0 ∷ []) }
+    ∷ record { given = told (metresOf (55 ∷ 44 ∷ [])); wanted = numbers (10 ∷ 0 ∷ []) }  -- "7,", ",5" and "7,4.0"
+    ∷ record { given = told (metresOf (44 ∷ 53 ∷ [])); wanted = numbers (10 ∷ 0 ∷ []) }
+    ∷ record { given = told (metresOf (55 ∷ 44 ∷ 52 ∷ 46 ∷ 48 ∷ [])); wanted = numbers (10 ∷ 0 ∷ []) }
     ∷ record { given = toldRaw (measureOf (72 ∷ 105 ∷ [])); wanted = numbers (0 ∷ 12 * 65536 ∷ []) }  -- P12: "Hi", 12 pixels
     ∷ []

@@ -2,3 +2,4 @@ pub mod Text
 pub mod Fields
 pub mod Metres
 pub mod Examples
+pub mod MetresLaws

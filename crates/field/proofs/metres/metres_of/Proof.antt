@@ -1,61 +1,58 @@
--- Empty, too few or too many digits, or what stands behind them. Assumes nothing.
+-- The text without its spaces before, and of that the part without its spaces behind. Assumes nothing.
 use mathlib.Core.List.{List}
-use mathlib.Core.Bool.{true}
-use mathlib.Core.Path.{_≡_, ap, _∙_}
-use Prim.Native.Nat.{ℕ, _*_, _≤_}
+use mathlib.Core.Path.{sym, ap, _∙_}
+use Prim.Native.Nat.{ℕ, _-_, _≤_}
 use native.Mathlib.Omega.{arith}
-use borrow.Author.Tests.{eq-eqb, ne-eqb, not-true, not-false}
 use borrow.Author.Needs.{needs}
+use borrow.Rule.Slice.PartAt.{part-to-end}
 use lib.ListN.{length, drop}
+use lib.Seq.{length-take-le}
 use Rattle.text.proofs.Walks.{front-not-longer}
-use Rattle.arithmetic.proofs.BoolLaws.{within-low, within-high}
 use Rattle.arithmetic.specs.Tests.{within}
-use Rattle.field.specs.Metres.{isDigit, behind, metresOf}
+use Rattle.field.specs.Metres.{skippedBack, trimmed, pointed, plainMetres, metresOf}
+use Rattle.field.proofs.Spaces.{spaces-in-front}
 use Rattle.field.proofs.metres.metres_of.Statement.{statement}
 use Rattle.field.proofs.metres.metres_of.Tie as tie
 
--- one to three digits were counted, and no more than there are bytes
-some : (c : tie.Else2) → within 1 3 (c .before .digits .result) ≡ true
-unfolding within
-some c = not-false (within 1 3 (c .before .digits .result)) (c .if2 .left)
+-- no more spaces are passed than there are bytes
+inside : (c : tie.After-leading) → c .leading .result ≤ length (c .before .before .args .s .now)
+inside c = omega (arith, c .leading .ensures, front-not-longer (within 32 32) (c .before .before .args .s .now))
 
-inside : (c : tie.Else2) → c .before .digits .result ≤ length (c .before .before .before .before .args .s .now)
-inside c = omega (arith, c .before .digits .ensures, front-not-longer isDigit (c .before .before .before .before .args .s .now))
+leading-requires : tie.Need-leading-requires
+leading-requires c κs = search needs
+
+sub-t : tie.Need-sub-t
+sub-t c = inside c
+
+part-t-start : tie.Need-part-t-start
+part-t-start c = inside c
+
+part-t-end : tie.Need-part-t-end
+part-t-end c = search needs
+
+end-requires : tie.Need-end-requires
+end-requires c κs = search needs
+
+slice-aggregate-number : tie.Need-slice-aggregate-number
+slice-aggregate-number c = sym (length-take-le _ _ (c .before .end .ensures .0))
+
+number-requires : tie.Need-number-requires
+number-requires c κs = search needs
 
 returns : tie.Need-returns
-unfolding metresOf
-returns c = rw (eq-eqb _ _ (c .if1 .taken))
-
-digits-requires : tie.Need-digits-requires
-digits-requires c κs = search needs
-
-returns-2 : tie.Need-returns-2
-unfolding metresOf within
-returns-2 c = rw (ne-eqb _ _ (c .before .before .if1 .left), ← c .before .digits .ensures, not-true (within 1 3 (c .before .digits .result)) (c .if2 .taken))
-
-value-requires : tie.Need-value-requires
-value-requires c κs = let k = some c in (within-low 1 3 (c .before .digits .result) k, within-high 1 3 (c .before .digits .result) k, inside c)
-
-mul-fraction : tie.Need-mul-fraction
-mul-fraction c = search needs
-
-fraction-requires : tie.Need-fraction-requires
-fraction-requires c κs = (inside (c .before), search needs)
-
-returns-3 : tie.Need-returns-3
-unfolding metresOf
-returns-3 c = let s : List ℕ = c .before .before .before .before .before .before .args .s .now in let w : ℕ = c .before .before .before .digits .result in c .fraction .ensures
-    ∙ ap (λ (v : ℕ). behind (v * 100) (drop w s)) (c .before .value .ensures .0)
-    ∙ rw (ne-eqb (length s) 0 (c .before .before .before .before .if1 .left), ← c .before .before .before .digits .ensures, some (c .before .before))
+unfolding metresOf trimmed
+returns c = let s : List ℕ = c .before .before .before .before .before .before .args .s .now in c .number .ensures
+    ∙ ap (λ (l : List ℕ). plainMetres (pointed l)) (c .before .before .end .ensures .1 ∙ ap skippedBack (part-to-end s _ ∙ ap (λ (n : ℕ). drop n s) (c .before .before .before .before .leading .ensures ∙ spaces-in-front s)))
 
 pub metres-of-spec : {M : Type 1} → statement M
 metres-of-spec =
     tie.close
     (tie.spec
-    returns
-    digits-requires
-    returns-2
-    value-requires
-    mul-fraction
-    fraction-requires
-    returns-3)
+    leading-requires
+    sub-t
+    part-t-start
+    part-t-end
+    end-requires
+    slice-aggregate-number
+    number-requires
+    returns)

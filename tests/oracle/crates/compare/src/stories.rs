@@ -13,7 +13,7 @@ use crate::author::{Author, id};
 type Story = fn(&mut Author);
 
 /// The stories with how often each is told.
-const STORIES: [(usize, Story); 29] = [
+const STORIES: [(usize, Story); 30] = [
     (12, tree::grow_tree),
     (7, tree::restyle),
     (8, tree::pass),
@@ -32,6 +32,7 @@ const STORIES: [(usize, Story); 29] = [
     (8, fields::type_some),
     (7, fields::fill_field),
     (7, fields::read_metres),
+    (3, fields::clear_with_spaces),
     (9, states::wear),
     (7, states::swap_pool),
     (5, states::moved_under_pointer),

@@ -1,12 +1,15 @@
-//! Metres (added by document 01): one to three digits, optionally a point and one or two digits.
+//! Metres (document 01, and wish 1 of document 02): one to three digits, optionally a point or a comma and one
+//! or two digits. Spaces before and after the number are skipped.
 
-/// Whole centimetres, or the refusal number: 9 for an empty text, 10 for any other form.
-pub fn metres(text: &[u8]) -> Result<u32, u8> {
+/// Whole centimetres, or the refusal number: 9 for a text that is empty or only spaces, 10 for any other form.
+pub fn metres(bytes: &[u8]) -> Result<u32, u8> {
+    // Code 32 alone is a space: `trim` would take tabs and no-break spaces too.
+    let text = core::str::from_utf8(bytes).map_err(|_| 10)?.trim_matches(' ');
     if text.is_empty() {
         return Err(9);
     }
-    let (whole, part) = match text.iter().position(|&byte| byte == b'.') {
-        Some(point) => (&text[..point], Some(&text[point + 1..])),
+    let (whole, part) = match text.split_once(['.', ',']) {
+        Some((whole, part)) => (whole, Some(part)),
         None => (text, None),
     };
     let metres = digits(whole, 3)?;
@@ -19,9 +22,9 @@ pub fn metres(text: &[u8]) -> Result<u32, u8> {
 }
 
 /// The number that one to `most` digits write.
-fn digits(text: &[u8], most: usize) -> Result<u32, u8> {
-    if text.is_empty() || text.len() > most || !text.iter().all(u8::is_ascii_digit) {
+fn digits(text: &str, most: usize) -> Result<u32, u8> {
+    if text.is_empty() || text.len() > most || !text.bytes().all(|byte| byte.is_ascii_digit()) {
         return Err(10);
     }
-    Ok(text.iter().fold(0, |number, &digit| number * 10 + u32::from(digit - b'0')))
+    Ok(text.bytes().fold(0, |number, digit| number * 10 + u32::from(digit - b'0')))
 }

@@ -122,18 +122,47 @@ pub fn fill_field(author: &mut Author) {
     }
 }
 
+/// Takes all characters of the focused field away.
+fn empty(author: &mut Author, node: NodeId) {
+    author.call("edit end");
+    while author.ui().field_text(node).is_some_and(|text| !text.is_empty()) {
+        author.call("edit backspace");
+    }
+}
+
+fn type_in(author: &mut Author, text: &str) {
+    for character in text.chars() {
+        author.call(format!("char {}", u32::from(character)));
+    }
+}
+
 pub fn read_metres(author: &mut Author) {
     let Some(node) = focused_field(author) else { return };
-    for _ in 0..1 + author.rng.below(3) {
-        author.call("edit end");
-        while author.ui().field_text(node).is_some_and(|text| !text.is_empty()) {
-            author.call("edit backspace");
-        }
-        for character in author.rng.pick(&texts::METRES).chars() {
-            author.call(format!("char {}", u32::from(character)));
-        }
+    for _ in 0..1 + author.rng.below(4) {
+        empty(author, node);
+        let text = texts::metres(&mut author.rng);
+        type_in(author, &text);
         author.call_on("metres", node);
     }
     let other = author.some_id();
     author.call_on("metres", other);
+}
+
+/// A field cleared with the space bar: spaces in an empty field, or before a text that is then deleted. At times
+/// they fill the field.
+pub fn clear_with_spaces(author: &mut Author) {
+    let Some(node) = focused_field(author) else { return };
+    empty(author, node);
+    let text = if author.rng.chance(70) { texts::metres(&mut author.rng) } else { String::new() };
+    type_in(author, &text);
+    author.call("edit home");
+    let spaces = if author.rng.chance(5) { 64 } else { 1 + author.rng.below(4) };
+    type_in(author, &" ".repeat(spaces));
+    author.call_on("metres", node);
+    for _ in text.chars() {
+        author.call("edit delete");
+    }
+    for word in ["metres", "text", "cursor"] {
+        author.call_on(word, node);
+    }
 }
