@@ -27,8 +27,8 @@ put_all() { # from, to
     done
 }
 
-# Fills the stage with the tracked crates, one of the two kinds of renew_fixed, and the source's files.
-fill_stage() { # kind
+# Lays out the stage: the tracked crates, one of the two kinds of renew_fixed, and the source's files as they are.
+lay_stage() { # kind
     [ -d "$source" ] || { echo "the Rust source is not there; ORACLE_SOURCE says where it is" >&2; exit 2; }
     rm -rf "$stage"
     for part in Cargo.toml renew_frame renew_ui desk compare; do
@@ -49,6 +49,38 @@ edit() { # file, lines, sed script
     mv -f "$stage/edited" "$stage/$1"
 }
 
+# Wish 2 of document 02 on the copies of the source: the pointer is an Option, none is nowhere and the derived default.
+# All that hit-tests the stored pointer asks `hover`, which hits nothing while it is nowhere. The fingerprint takes a
+# number more.
+patch_stage() {
+    edit renew_ui/src/input.rs 8 '
+        s/pub pointer: (i32, i32),/pub pointer: Option<(i32, i32)>,/
+        /pub fn handle/,/^    }/ {
+            s/self.interaction.pointer = (x, y);/self.interaction.pointer = Some((x, y));/
+            /let (x, y) = self.interaction.pointer;/d
+            s/self.hit_test(x, y)/self.hover()/
+        }
+        /pub fn hover/,/^    }/ s/self.interaction.pointer;/self.interaction.pointer?;/
+        /pub fn absorb/,/^    }/ {
+            s/interaction.pointer\./&unwrap_or_default()./
+            s/^\( *\)\(.*\).1.cast_unsigned());$/\1\2.1.cast_unsigned())\n\1.absorb_u32(u32::from(self.interaction.pointer.is_some()));/
+        }'
+    edit renew_ui/src/lib.rs 2 '/let (x, y) = self.interaction.pointer;/d; s/self.hit_test(x, y)/self.hover()/'
+}
+
+# The stage of all that follows documents 01 and 02.
+fill_stage() { # kind
+    lay_stage "$1"
+    patch_stage
+}
+
+# For the source's own pointer, which is always somewhere: both starts are its `Ui::new`.
+own_pointer() {
+    edit renew_ui/src/document.rs 3 '
+        /pub fn at_origin/,/^    }/ { s/let mut ui/let ui/; s/ui.interaction.pointer = .*;// }
+        /pub fn pointer/,/^    }/ s/self.interaction.pointer/Some(&)/'
+}
+
 # Brings a workspace to what the stage holds, builds a program of it and keeps it under another name.
 build() { # workspace, package, program, name
     put_all "$stage" "$out/$1"
@@ -58,7 +90,7 @@ build() { # workspace, package, program, name
     put "$out/$1/target/release/$3" "$out/bin/$4"
 }
 
-# The oracle: the source unchanged, with document 01's numbers.
+# The oracle: the source with document 01's numbers and the patch of document 02.
 build_console() {
     fill_stage renew_fixed
     build plain desk console console
@@ -78,12 +110,24 @@ build_mended() {
     build mended desk console console-mended
 }
 
-# The source as it stands: its own scalar.rs, its own bounds, and a focus and press that hide dead ids.
+# The source as it stands: its own scalar.rs, its own pointer and fingerprint, its own bounds, and a focus and press that
+# hide dead ids.
 build_bare() {
-    fill_stage renew_fixed_source
+    lay_stage renew_fixed_source
+    own_pointer
+    edit renew_ui/src/document.rs 1 '/fn digest_interaction/,/^    }/ s/\.absorb_u32(u32::from(self.pointer.*/;/'
     edit desk/src/desk.rs 2 's/\(MOST_NODES: u32 =\) 128/\1 1_000_000/; s/\(MOST_PATCHES: usize =\) 64/\1 65_534/'
     edit renew_ui/src/document.rs 2 '/fn stored_/,/^    }/ s/self.interaction.\(focus\|pressed\)/self.\1()/'
     build bare desk console console-bare
+}
+
+# The source's own pointer with document 01's numbers, whose fingerprint and digest take the 1 of a placed pointer: the
+# oracle has to answer alike wherever a run begins with `origin` and starts anew with it.
+build_origin() {
+    lay_stage renew_fixed
+    own_pointer
+    edit renew_ui/src/input.rs 1 '/pub fn absorb/,/^    }/ s/pointer.1.cast_unsigned());/pointer.1.cast_unsigned()).absorb_u32(1);/'
+    build origin desk console console-origin
 }
 
 # The program that compares, which links the oracle.

@@ -1,4 +1,4 @@
--- Document 01, "The history of demand 3". It is fed the new tree's limit and each call with its arguments, and of the answers only the id
+-- Document 01, "The history of demand 3". It is fed the new tree's start and limit and each call with its arguments, and of the answers only the id
 -- that an accepted insert gives. Press, focus and the field of a key are names: a name is made at each accepted insert and used once.
 use Prim.Native.Nat.{ℕ, _+_, _-_}
 use mathlib.Core.Bool.{Bool, true, false, _&&_, _||_, not, cond}
@@ -19,6 +19,7 @@ use Rattle.boxes.specs.Styles.{noPatch, noRect}
 use Rattle.boxes.specs.States.{inPool}
 use Rattle.arena.specs.Slots.{sameId, nobody}
 use Rattle.boxes.specs.Layout.{viewRect, sameView}
+use Rattle.boxes.specs.Pointers.{firstPointer, underPointer}
 use Rattle.arena.specs.Forest.{Forest, nil, node, app, hasBoth, hasId, kidsOf, setKidsOf, cutOf, find, firstId, nextId, size, mapF, anyF}
 use Rattle.boxes.specs.Nodes.{Info, newInfo, withField, changeOf, changeNamed, wears, swaps, bitsFor, restyled, withTable, bare, placeF, hitF, hasField, bit}
 use Rattle.boxes.specs.declared.Style.{Style}
@@ -26,6 +27,8 @@ use Rattle.boxes.specs.declared.Rect.{Rect}
 use Rattle.boxes.specs.declared.StatePatch.{StatePatch}
 use Rattle.boxes.specs.declared.Viewport.{Viewport}
 use Rattle.boxes.specs.declared.Pointer.{Pointer}
+use Rattle.boxes.specs.declared.Pointer.the-variants.{Placed}
+use Rattle.boxes.specs.declared.StartKind.{StartKind}
 use Rattle.boxes.specs.declared.UiEvent.{UiEvent}
 use Rattle.boxes.specs.declared.UiEvent.the-variants.{PointerMoved, PointerPressed, PointerReleased, TextEntered, Edit}
 use Rattle.boxes.specs.declared.Key.{Key}
@@ -85,13 +88,13 @@ rootId = record { index = 0; generation = 1 }
 unfoldable pub limitFrom : ℕ → ℕ
 limitFrom limit = cond (ltb 128 limit) 1 (cond (same limit 0) 1 limit)
 
-unfoldable pub start : ℕ → History
-start limit′ = record {
+unfoldable pub start : StartKind → ℕ → History
+start kind limit′ = record {
   limit = limitFrom limit′;
   tree = node 0 1 (newInfo 0) nil nil;
   named = rootId ∷ [];
   styling = record { pool = []; viewport = record { width = pos 0; height = pos 0 }; dirty = true };
-  input = record { pointer = record { x = pos 0; y = pos 0 }; pressed = nothing; focus = nothing };
+  input = record { pointer = firstPointer kind; pressed = nothing; focus = nothing };
 }
 
 -- The history with some of it changed: definitions touch it through these alone, so that a field more changes them and the start.
@@ -186,7 +189,7 @@ refusalOf h (ask q) = refusalOfQuestion h q
 
 -- The name of the node under the pointer, by this tree and these boxes. Press, release and hover all go by it.
 abbrev pub hitName : History → Maybe ℕ
-hitName h = hitF (h .input .pointer) nothing (h .tree)
+hitName h = underPointer nothing (λ pixel. hitF pixel nothing (h .tree)) (h .input .pointer)
 
 -- The bits of a node follow from the hit, the press and the focus.
 abbrev pub bitsIn : History → Info → ℕ
@@ -218,7 +221,7 @@ typedInto h key = withTree h (changeNamed (h .input .focus) (λ x. withField x (
 
 -- An event before the bits are refreshed.
 abbrev pub afterEvent : History → UiEvent → History
-afterEvent h (PointerMoved x′ y′) = withInput h (record { pointer = record { x = x′; y = y′ }; pressed = h .input .pressed; focus = h .input .focus })
+afterEvent h (PointerMoved x′ y′) = withInput h (record { pointer = Placed (record { x = x′; y = y′ }); pressed = h .input .pressed; focus = h .input .focus })
 afterEvent h PointerPressed = withInput h (record { pointer = h .input .pointer; pressed = hitName h; focus = h .input .focus })
 afterEvent h PointerReleased =
     withInput h (record { pointer = h .input .pointer; pressed = nothing; focus = cond (sameName (h .input .pressed) (hitName h)) (h .input .pressed) (h .input .focus) })

@@ -8,7 +8,7 @@ use Rattle.arena.specs.Slots.{Slots, kidsAt, idAt}
 use Rattle.boxes.specs.Styles.{layoutAt}
 use Rattle.boxes.specs.Layout.{holds}
 use Rattle.boxes.specs.declared.LayoutSlot.{LayoutSlot}
-use Rattle.boxes.specs.declared.Pointer.{Pointer}
+use Rattle.boxes.specs.declared.Pixel.{Pixel}
 
 -- The last of a list that passes a test, or d.
 unfoldable pub lastOf : (ℕ → Bool) → ℕ → List ℕ → ℕ
@@ -20,12 +20,12 @@ unfoldable pub descend : (ℕ → Bool) → ℕ → Slots → ℕ → ℕ
 descend p zero s i = i
 descend p (suc k) s i = descend p k s (lastOf p i (kidsAt s i))
 
--- Slot i's box holds the pointer.
-unfoldable pub holdsAt : List LayoutSlot → Pointer → ℕ → Bool
+-- Slot i's box holds the pixel.
+unfoldable pub holdsAt : List LayoutSlot → Pixel → ℕ → Bool
 holdsAt l pixel i = holds (pixel .x) (pixel .y) (layoutAt l i .rect)
 
 -- The node under the pixel: none where the root's box does not hold it.
-unfoldable pub hitAt : Slots → List LayoutSlot → Pointer → MaybeId
+unfoldable pub hitAt : Slots → List LayoutSlot → Pixel → MaybeId
 hitAt s l pixel =
     let p : ℕ → Bool = holdsAt l pixel in
     cond (p 0) (Present (idAt s (descend p 128 s 0))) Absent

@@ -3,6 +3,7 @@ pub mod Geometry
 pub mod States
 pub mod Layout
 pub mod Hit
+pub mod Pointers
 pub mod Nodes
 pub mod History
 pub mod Runs

@@ -12,7 +12,7 @@ use Rattle.arena.specs.Forest.{Forest, nil, node, hasBoth, mapF}
 use Rattle.boxes.specs.declared.Style.{Style}
 use Rattle.boxes.specs.declared.Rect.{Rect}
 use Rattle.boxes.specs.declared.StatePatch.{StatePatch}
-use Rattle.boxes.specs.declared.Pointer.{Pointer}
+use Rattle.boxes.specs.declared.Pixel.{Pixel}
 
 -- A node's name, base style, table, worn patch, bits, worn style and box, and its text if it has a field.
 pub record Info : Type 0 where
@@ -88,7 +88,7 @@ placeF (node i g x cs sib) [] = node i g x cs sib
 placeF (node i g x cs sib) (r ∷ rs) = node i g (withBox x r) (placeF cs (place (x .style) r (wantsF cs))) (placeF sib rs)
 
 -- The name of the node under a pixel: the last of the topmost nodes that holds it, or rather what holds it below that one; else d.
-abbrev pub hitF : Pointer → Maybe ℕ → Forest Info → Maybe ℕ
+abbrev pub hitF : Pixel → Maybe ℕ → Forest Info → Maybe ℕ
 hitF pixel d nil = d
 hitF pixel d (node i g x cs sib) = hitF pixel (cond (holds (pixel .x) (pixel .y) (x .rect)) (hitF pixel (just (x .name)) cs) d) sib
 

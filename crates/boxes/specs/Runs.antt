@@ -24,6 +24,7 @@ use Rattle.boxes.specs.declared.Edges.{Edges}
 use Rattle.boxes.specs.declared.Style.{Style}
 use Rattle.boxes.specs.declared.Rect.{Rect}
 use Rattle.boxes.specs.declared.StatePatch.{StatePatch}
+use Rattle.boxes.specs.declared.StartKind.{StartKind}
 
 -- What a line asks: a call, or the stored focus or press.
 pub data Asked : Type 0 where
@@ -38,6 +39,7 @@ pub record Line : Type 0 where
   pub answer : List ℤ
 
 pub record Run : Type 0 where
+  pub kind : StartKind
   pub limit : ℕ
   pub lines : List Line
 
@@ -97,7 +99,7 @@ unlikeFrom n h (l ∷ ls) =
     cond (sameNumbers (said h (l .asked)) (l .answer)) [] (n ∷ []) ++ unlikeFrom (suc n) (afterLine h (l .asked) (l .given)) ls
 
 unfoldable pub unlike : Run → List ℕ
-unlike r = unlikeFrom 0 (start (r .limit)) (r .lines)
+unlike r = unlikeFrom 0 (start (r .kind) (r .limit)) (r .lines)
 
 -- ---- how the lines are written
 

@@ -9,6 +9,7 @@ use Rattle.boxes.specs.History.Call.{change, ask}
 use Rattle.boxes.specs.History.Change.{remove, setStyle, setStateTable, makeField, solve, handle}
 use Rattle.boxes.specs.History.Question.{fieldText, fieldCursor, metres, rect, live, firstChild, nextSibling}
 use Rattle.boxes.specs.declared.UiEvent.the-variants.{PointerMoved, PointerPressed, PointerReleased, TextEntered, Edit}
+use Rattle.boxes.specs.declared.StartKind.the-variants.{New, AtOrigin}
 use Rattle.boxes.specs.declared.Direction.the-variants.{Row, Column}
 use Rattle.boxes.specs.declared.Size.the-variants.{Auto, Px}
 use Rattle.boxes.specs.declared.Align.the-variants.{Start, Center}
@@ -18,6 +19,7 @@ unfoldable pub sourceRuns : List Run
 sourceRuns =
     -- 01-a-row
     record {
+      kind = New;
       limit = 3;
       lines =
           gives (id 0 1) (id 1 1) 0 ∷
@@ -49,6 +51,7 @@ sourceRuns =
     } ∷
     -- 02-a-column
     record {
+      kind = New;
       limit = 5;
       lines =
           gives (id 0 1) (id 1 1) 0 ∷
@@ -84,6 +87,7 @@ sourceRuns =
     } ∷
     -- 03-growth
     record {
+      kind = New;
       limit = 4;
       lines =
           gives (id 0 1) (id 1 1) 0 ∷
@@ -114,6 +118,7 @@ sourceRuns =
     } ∷
     -- 04-edges
     record {
+      kind = New;
       limit = 4;
       lines =
           gives (id 0 1) (id 1 1) 0 ∷
@@ -186,6 +191,7 @@ sourceRuns =
     } ∷
     -- 05-patches
     record {
+      kind = New;
       limit = 3;
       lines =
           gives (id 0 1) (id 1 1) 0 ∷
@@ -242,6 +248,7 @@ sourceRuns =
     } ∷
     -- 06-the-flag
     record {
+      kind = New;
       limit = 3;
       lines =
           gives (id 0 1) (id 1 1) 0 ∷
@@ -282,6 +289,7 @@ sourceRuns =
     } ∷
     -- 07-two-viewports
     record {
+      kind = New;
       limit = 3;
       lines =
           gives (id 0 1) (id 1 1) 0 ∷
@@ -314,6 +322,7 @@ sourceRuns =
     } ∷
     -- 08-pools
     record {
+      kind = New;
       limit = 2;
       lines =
           gives (id 0 1) (id 1 1) 0 ∷
@@ -339,6 +348,7 @@ sourceRuns =
     } ∷
     -- 09-two-ships
     record {
+      kind = New;
       limit = 4;
       lines =
           gives (id 0 1) (id 1 1) 0 ∷
@@ -414,6 +424,7 @@ sourceRuns =
     } ∷
     -- 10-eight-fields
     record {
+      kind = New;
       limit = 11;
       lines =
           gives (id 0 1) (id 1 1) 0 ∷
@@ -443,6 +454,78 @@ sourceRuns =
           says (change (makeField (id 4 2))) (pos 4 ∷ []) ∷
           says (ask (fieldText (id 4 2))) (pos 8 ∷ pos 0 ∷ []) ∷
           says (ask (metres (id 4 1))) (pos 3 ∷ pos 0 ∷ []) ∷
+          [];
+    } ∷
+    -- 11-nowhere
+    record {
+      kind = New;
+      limit = 3;
+      lines =
+          gives (id 0 1) (id 1 1) 0 ∷
+          gives (id 0 1) (id 2 1) 0 ∷
+          says (change (setStyle (id 1 1) (style Row (Px (pos 655360)) (Px (pos 655360)) (edges (pos 0) (pos 0) (pos 0) (pos 0)) (edges (pos 0) (pos 0) (pos 0) (pos 0)) (pos 0) 0 Start Start))) (pos 0 ∷ []) ∷
+          says (change (setStyle (id 2 1) (style Row (Px (pos 655360)) (Px (pos 655360)) (edges (pos 0) (pos 0) (pos 0) (pos 0)) (edges (pos 0) (pos 0) (pos 0) (pos 0)) (pos 0) 0 Start Start))) (pos 0 ∷ []) ∷
+          says (change (makeField (id 1 1))) (pos 0 ∷ []) ∷
+          says (pooled ((patch true (style Row (Px (pos 1310720)) (Px (pos 655360)) (edges (pos 0) (pos 0) (pos 0) (pos 0)) (edges (pos 0) (pos 0) (pos 0) (pos 0)) (pos 0) 0 Start Start)) ∷ [])) (pos 0 ∷ []) ∷
+          says (change (setStateTable (id 1 1) (65535 ∷ 0 ∷ 0 ∷ 0 ∷ 0 ∷ 0 ∷ 0 ∷ 0 ∷ 65535 ∷ 65535 ∷ 65535 ∷ 65535 ∷ 65535 ∷ 65535 ∷ 65535 ∷ 65535 ∷ []))) (pos 0 ∷ []) ∷
+          says (change (solve (record { width = pos 13107200; height = pos 6553600 }))) (pos 0 ∷ []) ∷
+          says (change (handle PointerPressed)) (pos 0 ∷ []) ∷
+          saysPressed (pos 0 ∷ []) ∷
+          says (change (handle PointerReleased)) (pos 0 ∷ []) ∷
+          saysFocus (pos 0 ∷ []) ∷
+          says (change (handle (TextEntered 55))) (pos 0 ∷ []) ∷
+          says (ask (fieldText (id 1 1))) (pos 0 ∷ pos 0 ∷ []) ∷
+          says (ask (metres (id 1 1))) (pos 9 ∷ pos 0 ∷ []) ∷
+          says (change (solve (record { width = pos 13107200; height = pos 6553600 }))) (pos 0 ∷ []) ∷
+          says (ask (rect (id 1 1))) (pos 0 ∷ pos 0 ∷ pos 0 ∷ pos 655360 ∷ pos 655360 ∷ []) ∷
+          says (ask (rect (id 2 1))) (pos 0 ∷ pos 655360 ∷ pos 0 ∷ pos 655360 ∷ pos 655360 ∷ []) ∷
+          says (change (handle (PointerMoved (pos 0) (pos 0)))) (pos 0 ∷ []) ∷
+          says (change (handle PointerPressed)) (pos 0 ∷ []) ∷
+          saysPressed (pos 0 ∷ pos 1 ∷ pos 1 ∷ []) ∷
+          says (change (handle PointerReleased)) (pos 0 ∷ []) ∷
+          saysFocus (pos 0 ∷ pos 1 ∷ pos 1 ∷ []) ∷
+          says (change (handle (TextEntered 56))) (pos 0 ∷ []) ∷
+          says (ask (fieldText (id 1 1))) (pos 0 ∷ pos 1 ∷ pos 56 ∷ []) ∷
+          says (ask (metres (id 1 1))) (pos 0 ∷ pos 800 ∷ []) ∷
+          says (change (solve (record { width = pos 13107200; height = pos 6553600 }))) (pos 0 ∷ []) ∷
+          says (ask (rect (id 1 1))) (pos 0 ∷ pos 0 ∷ pos 0 ∷ pos 1310720 ∷ pos 655360 ∷ []) ∷
+          says (ask (rect (id 2 1))) (pos 0 ∷ pos 1310720 ∷ pos 0 ∷ pos 655360 ∷ pos 655360 ∷ []) ∷
+          [];
+    } ∷
+    -- 12-at-origin
+    record {
+      kind = AtOrigin;
+      limit = 3;
+      lines =
+          gives (id 0 1) (id 1 1) 0 ∷
+          gives (id 0 1) (id 2 1) 0 ∷
+          says (change (setStyle (id 1 1) (style Row (Px (pos 655360)) (Px (pos 655360)) (edges (pos 0) (pos 0) (pos 0) (pos 0)) (edges (pos 0) (pos 0) (pos 0) (pos 0)) (pos 0) 0 Start Start))) (pos 0 ∷ []) ∷
+          says (change (setStyle (id 2 1) (style Row (Px (pos 655360)) (Px (pos 655360)) (edges (pos 0) (pos 0) (pos 0) (pos 0)) (edges (pos 0) (pos 0) (pos 0) (pos 0)) (pos 0) 0 Start Start))) (pos 0 ∷ []) ∷
+          says (change (makeField (id 1 1))) (pos 0 ∷ []) ∷
+          says (pooled ((patch true (style Row (Px (pos 1310720)) (Px (pos 655360)) (edges (pos 0) (pos 0) (pos 0) (pos 0)) (edges (pos 0) (pos 0) (pos 0) (pos 0)) (pos 0) 0 Start Start)) ∷ [])) (pos 0 ∷ []) ∷
+          says (change (setStateTable (id 1 1) (65535 ∷ 0 ∷ 0 ∷ 0 ∷ 0 ∷ 0 ∷ 0 ∷ 0 ∷ 65535 ∷ 65535 ∷ 65535 ∷ 65535 ∷ 65535 ∷ 65535 ∷ 65535 ∷ 65535 ∷ []))) (pos 0 ∷ []) ∷
+          says (change (solve (record { width = pos 13107200; height = pos 6553600 }))) (pos 0 ∷ []) ∷
+          says (change (handle PointerPressed)) (pos 0 ∷ []) ∷
+          saysPressed (pos 0 ∷ pos 1 ∷ pos 1 ∷ []) ∷
+          says (change (handle PointerReleased)) (pos 0 ∷ []) ∷
+          saysFocus (pos 0 ∷ pos 1 ∷ pos 1 ∷ []) ∷
+          says (change (handle (TextEntered 55))) (pos 0 ∷ []) ∷
+          says (ask (fieldText (id 1 1))) (pos 0 ∷ pos 1 ∷ pos 55 ∷ []) ∷
+          says (ask (metres (id 1 1))) (pos 0 ∷ pos 700 ∷ []) ∷
+          says (change (solve (record { width = pos 13107200; height = pos 6553600 }))) (pos 0 ∷ []) ∷
+          says (ask (rect (id 1 1))) (pos 0 ∷ pos 0 ∷ pos 0 ∷ pos 1310720 ∷ pos 655360 ∷ []) ∷
+          says (ask (rect (id 2 1))) (pos 0 ∷ pos 1310720 ∷ pos 0 ∷ pos 655360 ∷ pos 655360 ∷ []) ∷
+          says (change (handle (PointerMoved (pos 0) (pos 0)))) (pos 0 ∷ []) ∷
+          says (change (handle PointerPressed)) (pos 0 ∷ []) ∷
+          saysPressed (pos 0 ∷ pos 1 ∷ pos 1 ∷ []) ∷
+          says (change (handle PointerReleased)) (pos 0 ∷ []) ∷
+          saysFocus (pos 0 ∷ pos 1 ∷ pos 1 ∷ []) ∷
+          says (change (handle (TextEntered 56))) (pos 0 ∷ []) ∷
+          says (ask (fieldText (id 1 1))) (pos 0 ∷ pos 2 ∷ pos 55 ∷ pos 56 ∷ []) ∷
+          says (ask (metres (id 1 1))) (pos 0 ∷ pos 7800 ∷ []) ∷
+          says (change (solve (record { width = pos 13107200; height = pos 6553600 }))) (pos 0 ∷ []) ∷
+          says (ask (rect (id 1 1))) (pos 0 ∷ pos 0 ∷ pos 0 ∷ pos 1310720 ∷ pos 655360 ∷ []) ∷
+          says (ask (rect (id 2 1))) (pos 0 ∷ pos 1310720 ∷ pos 0 ∷ pos 655360 ∷ pos 655360 ∷ []) ∷
           [];
     } ∷
     []

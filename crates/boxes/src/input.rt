@@ -1,10 +1,13 @@
-// Input: the node under a pixel, from the root down to the last child whose box holds it.
+// Input: the node under a pixel, from the root down to the last child whose box holds it, and the node under the pointer.
 ghost use mathlib.Core.Bool.{cond};
 ghost use mathlib.Core.Path.{_≡_};
 ghost use Rattle.arena.specs.Slots as links;
 ghost use Rattle.boxes.specs.Layout as laid;
 ghost use Rattle.boxes.specs.Hit as hits;
+ghost use Rattle.boxes.specs.Pointers.{underPointer};
+ghost use Rattle.field.specs.declared.MaybeId.the-variants.{Absent};
 use crate::LayoutSlot;
+use crate::Pixel;
 use crate::Pointer;
 use crate::layout;
 use arena::Slot;
@@ -12,7 +15,7 @@ use arena::links::id_at;
 use field::MaybeId;
 
 // Whether the slot's box holds the pixel.
-fn contains(l: LayoutSlot, pixel: Pointer) -> bool
+fn contains(l: LayoutSlot, pixel: Pixel) -> bool
     ensures { λ r. ⌜ r ≡ laid.holds (pixel .x) (pixel .y) (l .rect) ⌝ }
 {
     let rect = l.rect;
@@ -20,7 +23,7 @@ fn contains(l: LayoutSlot, pixel: Pointer) -> bool
 }
 
 // The slot, where its box holds the pixel, or d.
-fn held(l: LayoutSlot, pixel: Pointer, i: u32, d: u32) -> u32
+fn held(l: LayoutSlot, pixel: Pixel, i: u32, d: u32) -> u32
     ensures { λ r. ⌜ r ≡ cond (laid.holds (pixel .x) (pixel .y) (l .rect)) i d ⌝ }
 {
     if contains(l, pixel) {
@@ -31,7 +34,7 @@ fn held(l: LayoutSlot, pixel: Pointer, i: u32, d: u32) -> u32
 
 // From the root down, at most 128 times: to the last child whose box holds the pixel, until none does. `found` is the last so far of the
 // children of `at`, or `at` itself.
-fn descend(slots: [Slot; 128], layout: [LayoutSlot; 128], pixel: Pointer) -> u32
+fn descend(slots: [Slot; 128], layout: [LayoutSlot; 128], pixel: Pixel) -> u32
     ensures { λ r. ⌜ r ≡ hits.descend (hits.holdsAt layout pixel) 128 slots 0 ⌝ }
 {
     let mut at: u32 = 0;
@@ -66,7 +69,7 @@ fn descend(slots: [Slot; 128], layout: [LayoutSlot; 128], pixel: Pointer) -> u32
 }
 
 // The node under a pixel: none where the root's box does not hold it.
-pub fn hit_test(slots: [Slot; 128], layout: [LayoutSlot; 128], pixel: Pointer) -> MaybeId
+pub fn hit_test(slots: [Slot; 128], layout: [LayoutSlot; 128], pixel: Pixel) -> MaybeId
     ensures { λ r. ⌜ r ≡ hits.hitAt slots layout pixel ⌝ }
 {
     let root = layout[0];
@@ -76,4 +79,14 @@ pub fn hit_test(slots: [Slot; 128], layout: [LayoutSlot; 128], pixel: Pointer) -
         return MaybeId::Present(id);
     }
     MaybeId::Absent
+}
+
+// The node under the pointer: none where the pointer is nowhere.
+pub fn under_pointer(slots: [Slot; 128], layout: [LayoutSlot; 128], pointer: Pointer) -> MaybeId
+    ensures { λ r. ⌜ r ≡ underPointer Absent (λ pixel. hits.hitAt slots layout pixel) pointer ⌝ }
+{
+    match pointer {
+        Pointer::Nowhere => MaybeId::Absent,
+        Pointer::Placed(pixel) => hit_test(slots, layout, pixel),
+    }
 }

@@ -108,10 +108,22 @@ pub struct StatePatch {
     pub touches_layout: bool,
 }
 
-// The pointer, in pixels.
-pub struct Pointer {
+// A point in pixels.
+pub struct Pixel {
     pub x: i32,
     pub y: i32,
+}
+
+// The pointer: nowhere until it is first moved, then at a pixel.
+pub enum Pointer {
+    Nowhere,
+    Placed(Pixel),
+}
+
+// The two starts: `Ui::new`, where the pointer is nowhere, and `Ui::at_origin`, where it is at (0, 0).
+pub enum StartKind {
+    New,
+    AtOrigin,
 }
 
 // A viewport, raw.

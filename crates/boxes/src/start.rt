@@ -1,11 +1,15 @@
-// What is fresh: a new tree's slots, and a new node's style, layout slot and state slot.
+// What is fresh: a new tree's slots and pointer, and a new node's style, layout slot and state slot.
 ghost use mathlib.Core.Path.{_≡_};
 ghost use lib.ListN.{replicate};
 ghost use Rattle.arena.specs.Slots.{NIL, newSlot, newSlots};
+ghost use Rattle.boxes.specs.Pointers.{firstPointer};
 ghost use Rattle.boxes.specs.Styles.{freshStyle, freshLayout, freshState};
 use crate::LayoutSlot;
+use crate::Pixel;
+use crate::Pointer;
 use crate::Rect;
 use crate::Size;
+use crate::StartKind;
 use crate::StateSlot;
 use crate::Style;
 use arena::Slot;
@@ -110,4 +114,14 @@ pub fn fresh_states() -> [StateSlot; 128]
     ensures { λ r. ⌜ r ≡ replicate 128 freshState ⌝ }
 {
     [fresh_state(); 128]
+}
+
+// Where the pointer of a fresh tree is.
+pub fn first_pointer(kind: StartKind) -> Pointer
+    ensures { λ r. ⌜ r ≡ firstPointer kind ⌝ }
+{
+    match kind {
+        StartKind::New => Pointer::Nowhere,
+        StartKind::AtOrigin => Pointer::Placed(Pixel { x: 0, y: 0 }),
+    }
 }

@@ -16,6 +16,7 @@ use tree::Viewport;
 pub enum Word {
     Malformed,
     New(u32),
+    Origin(u32),
     Insert(NodeId),
     Remove(NodeId),
     Style(NodeId),
@@ -142,6 +143,14 @@ fn new_of(w: &[u8]) -> Word {
     Word::Malformed
 }
 
+fn origin_of(w: &[u8]) -> Word {
+    let n = words::small(w);
+    if n.ok {
+        return Word::Origin(n.value);
+    }
+    Word::Malformed
+}
+
 fn char_of(w: &[u8]) -> Word {
     let n = words::small(w);
     if n.ok {
@@ -170,12 +179,13 @@ fn measure_of(w: &[u8]) -> Word {
 
 // A call of two words.
 fn with_one(w: &[u8], a: &[u8]) -> Word {
-    match place(w, b"new char edit absorb measure") {
+    match place(w, b"new char edit absorb measure origin") {
         0 => new_of(a),
         1 => char_of(a),
         2 => edit_of(a),
         3 => absorb_of(a),
         4 => measure_of(a),
+        5 => origin_of(a),
         _ => Word::Malformed,
     }
 }
@@ -339,6 +349,7 @@ pub(crate) fn kind_of(word: Word) -> Kind {
         Word::Patch(touches) => Kind::Patch(touches),
         Word::Event(e) => Kind::Event(e),
         Word::New(_) => Kind::Change,
+        Word::Origin(_) => Kind::Change,
         Word::Remove(_) => Kind::Change,
         Word::Style(_) => Kind::Change,
         Word::Table(_) => Kind::Change,

@@ -11,6 +11,8 @@ use tree::Direction;
 use tree::Edges;
 use tree::Interaction;
 use tree::LayoutSlot;
+use tree::Pixel;
+use tree::Pointer;
 use tree::Rect;
 use tree::Size;
 use tree::Slot;
@@ -101,14 +103,26 @@ fn counts(h: StateHash, u: Ui) -> StateHash {
     raw(raw(dirty, view.width), view.height).absorb_u64(u.layout_passes)
 }
 
+fn pixel(h: StateHash, at: Pixel) -> StateHash {
+    h.absorb_u32(scalar::cast_unsigned(at.x))
+        .absorb_u32(scalar::cast_unsigned(at.y))
+}
+
+// The pointer's pixel, 0 and 0 where it is nowhere, and whether it is placed.
+fn pointer(h: StateHash, p: Pointer) -> StateHash {
+    match p {
+        Pointer::Nowhere => pixel(h, Pixel { x: 0, y: 0 }).absorb_u32(0),
+        Pointer::Placed(at) => pixel(h, at).absorb_u32(1),
+    }
+}
+
 // Paragraph 2: what the tree remembers between events.
 fn interaction(h: StateHash, i: Interaction) -> StateHash {
     let at = i.pointer;
-    let pointer = h.absorb_u32(scalar::cast_unsigned(at.x))
-        .absorb_u32(scalar::cast_unsigned(at.y));
+    let pointed = pointer(h, at);
     let pressed = i.pressed;
     let focus = i.focus;
-    let ids = maybe(maybe(pointer, pressed), focus);
+    let ids = maybe(maybe(pointed, pressed), focus);
     let sums = ids.absorb_u64(i.activations).absorb_u64(i.decisions);
     sums.absorb_u64(i.overflowed).absorb_u64(i.edit_fold)
 }

@@ -189,6 +189,9 @@ pub(crate) fn changed(tree: Ui, call: Call, waiting: Waiting) -> Changed {
         Word::New(limit) => {
             return Ui::new(UiLimits { nodes: limit });
         }
+        Word::Origin(limit) => {
+            return Ui::at_origin(UiLimits { nodes: limit });
+        }
         Word::Insert(d) => {
             return inserted(tree, d);
         }

@@ -4,6 +4,8 @@ use field::MaybeId;
 use field::NodeId;
 use tree::Interaction;
 use tree::LayoutSlot;
+use tree::Pixel;
+use tree::Pointer;
 use tree::Rect;
 use tree::Slot;
 use tree::StatePatch;
@@ -91,10 +93,31 @@ pub fn same_field(a: Field, b: Field) -> bool {
     counts & (check::same(&s, &t) & same_maybe(c, d))
 }
 
+fn is_nowhere(p: Pointer) -> bool {
+    match p {
+        Pointer::Nowhere => true,
+        Pointer::Placed(at) => false,
+    }
+}
+
+fn is_at(p: Pointer, pixel: Pixel) -> bool {
+    match p {
+        Pointer::Nowhere => false,
+        Pointer::Placed(at) => (at.x == pixel.x) & (at.y == pixel.y),
+    }
+}
+
+fn same_pointer(a: Pointer, b: Pointer) -> bool {
+    match a {
+        Pointer::Nowhere => is_nowhere(b),
+        Pointer::Placed(at) => is_at(b, at),
+    }
+}
+
 fn same_interaction(a: Interaction, b: Interaction) -> bool {
     let p = a.pointer;
     let q = b.pointer;
-    let pointer = (p.x == q.x) & (p.y == q.y);
+    let pointer = same_pointer(p, q);
     let down = a.pressed;
     let pressed = b.pressed;
     let held = a.focus;

@@ -18,6 +18,8 @@ use Rattle.tree.specs.Nodes.{Info, withField, changeNamed, changeOf, wears, res
 use Rattle.tree.specs.Layout.{viewRect, sameView}
 use Rattle.tree.specs.Calls as tree
 use Rattle.tree.specs.declared.Ui.{Ui}
+use Rattle.tree.specs.Types.{StartKind}
+use Rattle.tree.specs.Pointers.{firstPointer}
 use Rattle.arithmetic.proofs.BoolLaws.{both}
 use Rattle.arithmetic.proofs.TestLaws.{bool-cases, eq-cases, same-refl}
 use Rattle.tree.proofs.Payloads.{AllF, all-map, all-app, all-both, all-mapF}
@@ -26,7 +28,7 @@ use Rattle.tree.proofs.FieldLaws.{one-id-is-the-other, to-have-an-id-is-to-be-n
 use Rattle.tree.specs.Fields.{fieldOf, noText}
 use Rattle.tree.proofs.Relation.{textIn}
 use Rattle.desk.specs.Events as desk
-use Rattle.tree.specs.History.{History, Call, Change, start, refusalOf, refusalOfField, refusalOfChange, afterChange, accept, recorded, grown, keepText, keyText, mapMaybe, refresh, afterEvent, padded, ofText, ofNode, textSaid, caretSaid, metresSaid}
+use Rattle.tree.specs.History.{History, Input, Call, Change, idNamed, start, refusalOf, refusalOfField, refusalOfChange, afterChange, accept, recorded, grown, keepText, keyText, mapMaybe, refresh, afterEvent, padded, ofText, ofNode, textSaid, caretSaid, metresSaid}
 use Rattle.tree.specs.History.Call.{insert, change, ask}
 use Rattle.tree.specs.History.Change.{remove, setStyle, setStateTable, setPatchPool, makeField, solve, handle, nextOutput}
 use Rattle.desk.specs.Demand3.{step, feed, Machines, follow}
@@ -40,6 +42,7 @@ use Rattle.desk.proofs.Invariant.{OwnName, OwnText, Inv, SameNodes, sam
 use Rattle.desk.proofs.AnswerLaws.{Kept}
 use Rattle.desk.proofs.CallSteps.{every-call}
 use Rattle.desk.proofs.Demand3.{starts, demand-3}
+use Rattle.desk.proofs.FirstMoves.{untouched, nothing-is-touched}
 use Rattle.desk.proofs.NewTrees.{the-new-tree-is-not-broken, no-call-is-refused-by-1}
 use Rattle.tree.specs.Slots.{nobody}
 
@@ -216,37 +219,37 @@ found-holds P d f a x e =
     (λ b. let q : nothing ≡ just x = sym (find-nothing d f b) ∙ e in
     let z : _≡_ {A = ℕ} 0 1 = cc in absurd (omega arith))
 
-module _ (limit : ℕ) (cs : List Call) (n : length cs < 2 ^ 63) (m : Machines cs) where
-  all-logged : AllF (ByKeys (keysAfter limit cs)) (historyAfter limit cs .tree)
+module _ (kind : StartKind) (limit : ℕ) (cs : List Call) (n : length cs < 2 ^ 63) (m : Machines cs) where
+  all-logged : AllF (ByKeys (keysAfter kind limit cs)) (historyAfter kind limit cs .tree)
   unfolding start
-  all-logged = runs-logged 0 (newOne limit cs) (start limit) cs (starts limit) (omega arith) m noKeys ((λ t q. no-text nothing t refl q), tt, tt)
+  all-logged = runs-logged 0 (newOne kind limit cs) (start kind limit) cs (starts kind limit) (omega arith) m noKeys ((λ t q. no-text nothing t refl q), tt, tt)
 
-  text-of-keys : (d : NodeId) (x : Info) → HasField limit cs d x → (o : Maybe Text) → x .text ≡ o → x .text ≡ just (textOfKeys (keysAfter limit cs (x .name)))
+  text-of-keys : (d : NodeId) (x : Info) → HasField kind limit cs d x → (o : Maybe Text) → x .text ≡ o → x .text ≡ just (textOfKeys (keysAfter kind limit cs (x .name)))
   text-of-keys d x f nothing e = let b = f .1 in let z : _≡_ {A = ℕ} 0 1 = cc in absurd (omega arith)
   text-of-keys d x f (just t) e =
-      e ∙ ap (λ (y : Text). just y) (found-holds (ByKeys (keysAfter limit cs)) d (historyAfter limit cs .tree) all-logged x (f .0) t e)
+      e ∙ ap (λ (y : Text). just y) (found-holds (ByKeys (keysAfter kind limit cs)) d (historyAfter kind limit cs .tree) all-logged x (f .0) t e)
 
   -- what is said of a field is said of the text of its keys
-  of-keys : {A : Type 0} (none : A) (read : Text → Answer A) (d : NodeId) (x : Info) → HasField limit cs d x
-      → ofNode none (λ y. ofText none read (y .text)) (find d (historyAfter limit cs .tree)) ≡ read (textOfKeys (keysAfter limit cs (x .name)))
+  of-keys : {A : Type 0} (none : A) (read : Text → Answer A) (d : NodeId) (x : Info) → HasField kind limit cs d x
+      → ofNode none (λ y. ofText none read (y .text)) (find d (historyAfter kind limit cs .tree)) ≡ read (textOfKeys (keysAfter kind limit cs (x .name)))
   of-keys none read d x f = rw (f .0, text-of-keys d x f (x .text) refl)
 
 pub corollaries : Corollaries
-unfolding start textSaid caretSaid metresSaid bytesOf caretOf encodedAll
-corollaries limit l cs n m =
-    let h = demand-3 limit l cs n m in
+unfolding firstPointer start textSaid caretSaid metresSaid bytesOf caretOf encodedAll
+corollaries kind limit l cs n m =
+    let h = demand-3 kind limit l cs n m in
     let a = h .agree in
-    let text′ : (d : NodeId) (x : Info) → HasField limit cs d x → tree.fieldText (treeAfter limit cs) d .answer ≡ accepted (padded (textOfKeys (keysAfter limit cs (x .name)))) =
-    λ d x f. a .text-is d ∙ of-keys limit cs n m noText _ d x f in
-    let caret′ : (d : NodeId) (x : Info) → HasField limit cs d x → tree.fieldCursor (treeAfter limit cs) d .answer ≡ accepted (caretOf (textOfKeys (keysAfter limit cs (x .name)))) =
-    λ d x f. a .caret-is d ∙ of-keys limit cs n m 0 _ d x f in
-    let metres′ : (d : NodeId) (x : Info) → HasField limit cs d x → desk.metres (treeAfter limit cs) d .answer ≡ metresOf (bytesOf (textOfKeys (keysAfter limit cs (x .name)))) =
-    λ d x f. a .metres-are d ∙ of-keys limit cs n m 0 _ d x f in
-    let spaces′ : (d : NodeId) (x : Info) → HasField limit cs d x → all isBlank (keysAfter limit cs (x .name)) ≡ true → desk.metres (treeAfter limit cs) d .answer ≡ refused Empty 0 =
-    λ d x f b. let ks = keysAfter limit cs (x .name) in metres′ d x f ∙ blank-is-empty (textOfKeys ks) (keys-blank ks (text [] []) b (refl, refl)) in
+    let text′ : (d : NodeId) (x : Info) → HasField kind limit cs d x → tree.fieldText (treeAfter kind limit cs) d .answer ≡ accepted (padded (textOfKeys (keysAfter kind limit cs (x .name)))) =
+    λ d x f. a .text-is d ∙ of-keys kind limit cs n m noText _ d x f in
+    let caret′ : (d : NodeId) (x : Info) → HasField kind limit cs d x → tree.fieldCursor (treeAfter kind limit cs) d .answer ≡ accepted (caretOf (textOfKeys (keysAfter kind limit cs (x .name)))) =
+    λ d x f. a .caret-is d ∙ of-keys kind limit cs n m 0 _ d x f in
+    let metres′ : (d : NodeId) (x : Info) → HasField kind limit cs d x → desk.metres (treeAfter kind limit cs) d .answer ≡ metresOf (bytesOf (textOfKeys (keysAfter kind limit cs (x .name)))) =
+    λ d x f. a .metres-are d ∙ of-keys kind limit cs n m 0 _ d x f in
+    let spaces′ : (d : NodeId) (x : Info) → HasField kind limit cs d x → all isBlank (keysAfter kind limit cs (x .name)) ≡ true → desk.metres (treeAfter kind limit cs) d .answer ≡ refused Empty 0 =
+    λ d x f b. let ks = keysAfter kind limit cs (x .name) in metres′ d x f ∙ blank-is-empty (textOfKeys ks) (keys-blank ks (text [] []) b (refl, refl)) in
     record {
       no-id-is-given-twice = h .ids-differ;
-      number-1-never-comes = let w = the-new-tree-is-not-broken limit in no-call-is-refused-by-1 (newOne limit cs) cs (w .0) (w .1) m;
+      number-1-never-comes = let w = the-new-tree-is-not-broken kind limit in no-call-is-refused-by-1 (newOne kind limit cs) cs (w .0) (w .1) m;
       a-text-is-its-keys = text′;
       a-caret-is-its-keys = caret′;
       metres-are-of-its-keys = metres′;
@@ -256,4 +259,9 @@ corollaries limit l cs n m =
         spaces′ d x f (ap (all isBlank) e),
       );
       a-field-of-spaces-is-empty = spaces′;
+      nothing-is-hit-before-a-move = λ e s.
+          let first : start kind limit .input ≡ untouched = ap (λ (k : StartKind). start k limit .input) e in
+          let t = nothing-is-touched (start kind limit) cs (feed (newOne kind limit cs) cs) noKeys first (λ name. refl) s in
+          let names = historyAfter kind limit cs .named in
+          (a .press-is ∙ ap (λ (i : Input). idNamed names (i .pressed)) (t .0), a .focus-is ∙ ap (λ (i : Input). idNamed names (i .focus)) (t .0), t .1);
     }

@@ -12,6 +12,8 @@ use Rattle.arithmetic.specs.Tests.{same}
 use Rattle.tree.specs.Calls as tree
 use Rattle.tree.specs.Calls.{fresh}
 use Rattle.tree.specs.declared.Ui.{Ui}
+use Rattle.tree.specs.Types.{StartKind}
+use Rattle.tree.specs.Pointers.{firstPointer}
 use Rattle.arithmetic.proofs.TestLaws.{bool-cases, eq-cases}
 use Rattle.tree.proofs.Starts.{start-root-generation}
 use Rattle.tree.proofs.StartParts.{start-has-links, start-has-names, start-has-styling, start-has-a-pool, start-has-texts, start-has-a-queue}
@@ -43,30 +45,31 @@ limit-in-range limit =
     nonzero zero e = absurd (e refl)
     nonzero (suc n) e = omega arith
 
-pub new-is-fresh : (limit : ℕ) → tree.newTree limit .next ≡ fresh (limitFrom limit)
+pub new-is-fresh : (kind : StartKind) (limit : ℕ) → tree.newTree kind limit .next ≡ fresh (firstPointer kind) (limitFrom limit)
 unfolding tree.newTree limitFrom
-new-is-fresh limit = bool-cases (ltb 128 limit) (λ b. rw b) (λ b. rw b)
+new-is-fresh kind limit = bool-cases (ltb 128 limit) (λ b. rw b) (λ b. rw b)
 
-starts-fresh : (limit : ℕ) → Inv 0 (fresh (limitFrom limit)) (start limit)
+starts-fresh : (kind : StartKind) (limit : ℕ) → Inv 0 (fresh (firstPointer kind) (limitFrom limit)) (start kind limit)
 unfolding start fresh
-starts-fresh limit =
+starts-fresh kind limit =
+    let p = firstPointer kind in
     let n = limitFrom limit in
     let r = limit-in-range limit in
     record {
       nodes = record {
-        links = start-has-links n (r .0) (r .1);
-        naming = start-has-names n (r .0) (r .1);
-        texts = start-has-texts n (r .0) (r .1);
+        links = start-has-links p n (r .0) (r .1);
+        naming = start-has-names p n (r .0) (r .1);
+        texts = start-has-texts p n (r .0) (r .1);
         root-is = start-root-generation n;
         limit-is = refl;
       };
-      styling = record { styled = start-has-styling n (r .0) (r .1); pool = start-has-a-pool n (r .0) (r .1); pool-is = refl; view-is = refl; dirty-is = refl };
+      styling = record { styled = start-has-styling p n (r .0) (r .1); pool = start-has-a-pool p n (r .0) (r .1); pool-is = refl; view-is = refl; dirty-is = refl };
       input = record { pointer-is = refl; pressed = record { is-id = refl; is-in = tt }; focus = record { is-id = refl; is-in = tt } };
-      queue = start-has-a-queue n (r .0) (r .1);
+      queue = start-has-a-queue p n (r .0) (r .1);
     }
 
-pub starts : (limit : ℕ) → Inv 0 (tree.newTree limit .next) (start limit)
-starts limit = subst (λ (u : Ui). Inv 0 u (start limit)) (sym (new-is-fresh limit)) (starts-fresh limit)
+pub starts : (kind : StartKind) (limit : ℕ) → Inv 0 (tree.newTree kind limit .next) (start kind limit)
+starts kind limit = subst (λ (u : Ui). Inv 0 u (start kind limit)) (sym (new-is-fresh kind limit)) (starts-fresh kind limit)
 
 -- ---- the names that were made are the ids that were given
 
@@ -155,4 +158,4 @@ holds-from k u h v cs small m =
     }
 
 pub demand-3 : Demand3
-demand-3 limit l cs n m = holds-from 0 (tree.newTree limit .next) (start limit) (starts limit) cs (omega arith) m
+demand-3 kind limit l cs n m = holds-from 0 (tree.newTree kind limit .next) (start kind limit) (starts kind limit) cs (omega arith) m

@@ -10,12 +10,12 @@ use Rattle.field.specs.declared.MaybeId.{MaybeId}
 use Rattle.field.specs.declared.MaybeId.the-variants.{Absent, Present}
 use Rattle.arithmetic.specs.Tests.{Maybe, nothing, just}
 use Rattle.tree.specs.Slots.{isLive, isId}
-use Rattle.tree.specs.Input.{hitTest}
-use Rattle.tree.specs.Hit.{hitAt}
+use Rattle.tree.specs.Input.{hitUnder}
 use Rattle.tree.specs.Fields.{fieldOf}
 use Rattle.tree.specs.Trees.{limitOf, withFields, withInteraction, withWaiting}
 use Rattle.tree.specs.declared.Interaction.{Interaction}
 use Rattle.tree.specs.Types.{Pointer}
+use Rattle.boxes.specs.declared.Pointer.the-variants.{Nowhere, Placed}
 use Rattle.tree.specs.declared.Ui.{Ui}
 use Rattle.desk.specs.Events.{activated, activate, foldedBy, hasChanged, keyedField, editFold, editField, editFocused, releasedOn, appliedEvent, hitOf}
 use Rattle.boxes.specs.declared.UiEvent.{UiEvent}
@@ -77,7 +77,7 @@ pub key-keeps-the-pointer : (u : Ui) (key : Key) → editFocused u key (u .inter
 key-keeps-the-pointer u key = key-stays u key (u .interaction .focus) .pointer
 
 -- The hit may be taken where the pointer is after the event: one that moves it takes no notice of the hit.
-pub hit-once : (u : Ui) (event : UiEvent) (q : Pointer) → q ≡ appliedEvent u (hitOf u) event .interaction .pointer → appliedEvent u (hitOf u) event ≡ appliedEvent u (hitTest u q) event
+pub hit-once : (u : Ui) (event : UiEvent) (q : Pointer) → q ≡ appliedEvent u (hitOf u) event .interaction .pointer → appliedEvent u (hitOf u) event ≡ appliedEvent u (hitUnder u q) event
 unfolding hitOf withInteraction
 hit-once u (PointerMoved x′ y′) q e = refl
 hit-once u PointerPressed q e = rw e
@@ -85,14 +85,15 @@ hit-once u PointerReleased q e = rw (e ∙ release-keeps-the-pointer u (hitOf u)
 hit-once u (TextEntered ch) q e = refl
 hit-once u (Edit op) q e = refl
 
--- A hit test reads only slots and boxes.
-hit-of : (u v : Ui) (q : Pointer) → v .slots ≡ u .slots → v .layout ≡ u .layout → hitTest v q ≡ hitTest u q
-unfolding hitAt
-hit-of u v q a b = rw (a, b)
+-- What is under a pointer follows from slots and boxes alone.
+hit-of : (u v : Ui) (q : Pointer) → v .slots ≡ u .slots → v .layout ≡ u .layout → hitUnder v q ≡ hitUnder u q
+hit-of u v Nowhere a b = refl
+hit-of u v (Placed pixel) a b = rw (a, b)
 
 -- So may the hover after it.
-pub hover-once : (u : Ui) (event : UiEvent) (q : Pointer) → q ≡ appliedEvent u (hitOf u) event .interaction .pointer → hitOf (appliedEvent u (hitOf u) event) ≡ hitTest u q
+pub hover-once : (u : Ui) (event : UiEvent) (q : Pointer) → q ≡ appliedEvent u (hitOf u) event .interaction .pointer → hitOf (appliedEvent u (hitOf u) event) ≡ hitUnder u q
 unfolding hitOf
 hover-once u event q e =
     let s = event-keeps-slots-and-boxes u (hitOf u) event in
-    hit-of u (appliedEvent u (hitOf u) event) _ (s .0) (s .1) ∙ ap (hitTest u) (sym e)
+    let v = appliedEvent u (hitOf u) event in
+    hit-of u v (v .interaction .pointer) (s .0) (s .1) ∙ ap (hitUnder u) (sym e)

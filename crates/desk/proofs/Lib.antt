@@ -16,4 +16,5 @@ pub mod NotBrokenStays
 pub mod PassBoxes
 pub mod Demand3
 pub mod NewTrees
+pub mod FirstMoves
 pub mod Corollaries

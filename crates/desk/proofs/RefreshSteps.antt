@@ -7,11 +7,12 @@ use Rattle.arithmetic.specs.Tests.{nothing}
 use Rattle.tree.specs.Wearing.{refreshed}
 use Rattle.tree.specs.Forest.{mapF, anyF}
 use Rattle.tree.specs.Nodes.{Info, wears, swaps, hitF}
-use Rattle.tree.specs.Input.{hitTest}
+use Rattle.tree.specs.Pointers.{underPointer}
+use Rattle.tree.specs.Input.{hitUnder}
 use Rattle.tree.specs.Trees.{withStyles, withStated}
 use Rattle.tree.specs.declared.Ui.{Ui}
 use Rattle.tree.specs.Types.{Pointer, StatePatch}
-use Rattle.tree.proofs.HitLaws.{Names, the-hit-test-names-the-forests-node}
+use Rattle.tree.proofs.HitLaws.{Names, the-pointer-names-the-forests-node}
 use Rattle.tree.proofs.Relation.{Styled}
 use Rattle.tree.proofs.StylingParts.{refresh-keeps-styling, refresh-dirties}
 use Rattle.desk.specs.Events.{hitOf}
@@ -25,8 +26,8 @@ module _ {k : ℕ} {u : Ui} {h : History} (v : Inv k u h) where
   unfolding hitOf
   hits-agree =
       hit-is-named (u .slots) (h .tree) (h .named) (v .nodes .naming) (hitOf u) (hitName h)
-      (subst (λ (p : Pointer). Names (h .tree) (hitTest u (u .interaction .pointer)) (hitF p nothing (h .tree))) (v .input .pointer-is)
-      (the-hit-test-names-the-forests-node (u .slots) (u .layout) (u .interaction .pointer) (v .nodes .links .rel) (v .styling .styled .boxed)))
+      (subst (λ (p : Pointer). Names (h .tree) (hitUnder u (u .interaction .pointer)) (underPointer nothing (λ pixel. hitF pixel nothing (h .tree)) p)) (v .input .pointer-is)
+      (the-pointer-names-the-forests-node (u .slots) (u .layout) (u .interaction .pointer) (v .nodes .links .rel) (v .styling .styled .boxed)))
 
   pub refresh-agrees : Inv k (refreshed u (hitOf u)) (refresh h)
   unfolding refresh refreshed withStated withStyles wears

@@ -9,13 +9,20 @@ use Rattle.field.specs.declared.NodeId.{NodeId}
 use Rattle.field.specs.declared.Field.{Field}
 use Rattle.arithmetic.specs.Tests.{same, all}
 use Rattle.tree.specs.Broken.{broken}
-use Rattle.tree.specs.Trees.{withStyles}
+use Rattle.tree.specs.Trees.{withStyles, withInteraction}
 use Rattle.tree.specs.Layout.{sameView}
 use Rattle.tree.specs.Calls as tree
-use Rattle.tree.specs.Types.{Style, StateSlot, LayoutSlot, Viewport}
+use Rattle.tree.specs.Types.{Style, StateSlot, LayoutSlot, Viewport, Pointer, StartKind}
+use Rattle.tree.specs.Pointers.{firstPointer}
+use Rattle.boxes.specs.declared.StartKind.the-variants.{New, AtOrigin}
 use Rattle.tree.specs.declared.Ui.{Ui}
 use Rattle.tree.specs.History.{Call}
+use Rattle.desk.specs.Events.{pointedAt}
 use Rattle.desk.specs.Demand3.{step, run, Machines}
+
+-- The tree with its pointer elsewhere.
+abbrev pub placedAt : Ui → Pointer → Ui
+placedAt u pointer = withInteraction u (pointedAt (u .interaction) pointer)
 
 -- A refused call gives back the tree that it got.
 abbrev pub ARefusedCallChangesNothing : Type 0
@@ -45,9 +52,16 @@ pub record MachineTree (u : Ui) : Type 0 where
 abbrev pub NotBrokenStays : Type 0
 NotBrokenStays = (u : Ui) (cs : List Call) → MachineTree u → broken u ≡ false → Machines cs → MachineTree (run u cs) × (broken (run u cs) ≡ false)
 
--- The new tree of every limit is such a tree: no calls from it, however many, ever break it.
+-- The new tree of either start and every limit is such a tree: no calls from it, however many, ever break it.
 abbrev pub TheNewTreeIsNotBroken : Type 0
-TheNewTreeIsNotBroken = (limit : ℕ) → MachineTree (tree.newTree limit .next) × (broken (tree.newTree limit .next) ≡ false)
+TheNewTreeIsNotBroken = (kind : StartKind) (limit : ℕ) → MachineTree (tree.newTree kind limit .next) × (broken (tree.newTree kind limit .next) ≡ false)
+
+-- The two starts are refused alike, and the trees that they give share all but the pointer.
+abbrev pub TheStartsShareAllButThePointer : Type 0
+TheStartsShareAllButThePointer =
+    (limit : ℕ)
+    → (tree.newTree AtOrigin limit .answer ≡ tree.newTree New limit .answer)
+    × (tree.newTree AtOrigin limit .next ≡ placedAt (tree.newTree New limit .next) (firstPointer AtOrigin))
 
 -- A pass is made: nodes, links or looks changed since the last one, or the viewport did.
 abbrev pub passDue : Ui → Viewport → Bool

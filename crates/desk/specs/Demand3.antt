@@ -18,6 +18,7 @@ use Rattle.tree.specs.Forest.{kidsOf, ids}
 use Rattle.tree.specs.Calls as tree
 use Rattle.tree.specs.Calls.{Outcome}
 use Rattle.tree.specs.declared.Ui.{Ui}
+use Rattle.tree.specs.Types.{StartKind}
 use Rattle.desk.specs.Events as desk
 use Rattle.tree.specs.History.{History, Call, Change, Question, start, refusalOf, recorded, textSaid, caretSaid, metresSaid, rectSaid, liveSaid, firstSaid, nextSaid, idNamed}
 use Rattle.tree.specs.History.Call.{insert, change, ask}
@@ -165,6 +166,8 @@ pub record Holds (u : Ui) (h : History) (cs : List Call) : Type 0 where
 abbrev pub HoldsFrom : (ℕ → Ui → History → Type 0) → Type 0
 HoldsFrom Related = (k : ℕ) (u : Ui) (h : History) → Related k u h → (cs : List Call) → k + length cs < 2 ^ 63 → Machines cs → Holds u h cs
 
--- Demand 3: from the new tree of any limit, where the root's id is the one that was given before.
+-- Demand 3: from what either start gives, of any limit, where the root's id is the one that was given before.
 abbrev pub Demand3 : Type 0
-Demand3 = (limit : ℕ) → limit < 2 ^ 32 → (cs : List Call) → length cs < 2 ^ 63 → Machines cs → Holds (tree.newTree limit .next) (start limit) cs
+Demand3 =
+    (kind : StartKind) (limit : ℕ) → limit < 2 ^ 32 → (cs : List Call) → length cs < 2 ^ 63 → Machines cs
+    → Holds (tree.newTree kind limit .next) (start kind limit) cs

@@ -1,4 +1,4 @@
--- Document 01, **Input** and **Metres**: each event, the oldest output, the fingerprint, and metres by node.
+-- Document 01, **Input** and **Metres**, with wish 2 of document 02: each event, the oldest output, the fingerprint, and metres by node.
 use Prim.Native.Nat.{ℕ}
 use mathlib.Core.Bool.{Bool, _&&_, not, cond}
 use mathlib.Core.List.{List, [], _∷_, _++_}
@@ -17,12 +17,13 @@ use Rattle.field.specs.declared.EditOp.the-variants.{Backspace, Delete, Left, R
 use Rattle.arithmetic.specs.Tests.{same, Maybe, nothing, just}
 use Rattle.tree.specs.Slots.{isLive, isId}
 use Rattle.tree.specs.Wearing.{refreshed}
-use Rattle.tree.specs.Input.{hitTest}
+use Rattle.tree.specs.Input.{hitUnder}
 use Rattle.tree.specs.Fields.{owns, fieldOf, changeFirst}
 use Rattle.tree.specs.Trees.{limitOf, waitingOf, withFields, withInteraction, withWaiting}
 use Rattle.tree.specs.Calls.{Outcome, gives, guarded, onField}
 use Rattle.tree.specs.declared.Ui.{Ui}
 use Rattle.tree.specs.Types.{Pointer}
+use Rattle.boxes.specs.declared.Pointer.the-variants.{Nowhere, Placed}
 use Rattle.tree.specs.declared.Interaction.{Interaction}
 use Rattle.boxes.specs.declared.UiEvent.{UiEvent}
 use Rattle.boxes.specs.declared.UiEvent.the-variants.{PointerMoved, PointerPressed, PointerReleased, TextEntered, Edit}
@@ -31,7 +32,7 @@ use Rattle.boxes.specs.declared.Key.the-variants.{Char, Op}
 
 -- The interaction with some of it changed.
 abbrev pub pointedAt : Interaction → Pointer → Interaction
-pointedAt a pixel = record { pointer = pixel; pressed = a .pressed; focus = a .focus; activations = a .activations; decisions = a .decisions; «edit_fold» = a .«edit_fold»; overflowed = a .overflowed }
+pointedAt a pointer′ = record { pointer = pointer′; pressed = a .pressed; focus = a .focus; activations = a .activations; decisions = a .decisions; «edit_fold» = a .«edit_fold»; overflowed = a .overflowed }
 
 abbrev pub pressedOn : Interaction → MaybeId → Interaction
 pressedOn a d = record { pointer = a .pointer; pressed = d; focus = a .focus; activations = a .activations; decisions = a .decisions; «edit_fold» = a .«edit_fold»; overflowed = a .overflowed }
@@ -107,7 +108,7 @@ editFocused u key (Present d) = cond (isLive (limitOf u) (u .slots) d) (editFiel
 
 -- An event before the bits are refreshed, with `hit` the node under the pointer.
 abbrev pub appliedEvent : Ui → MaybeId → UiEvent → Ui
-appliedEvent u hit (PointerMoved x′ y′) = withInteraction u (pointedAt (u .interaction) (record { x = x′; y = y′ }))
+appliedEvent u hit (PointerMoved x′ y′) = withInteraction u (pointedAt (u .interaction) (Placed (record { x = x′; y = y′ })))
 appliedEvent u hit PointerPressed = withInteraction u (pressedOn (u .interaction) hit)
 appliedEvent u hit PointerReleased = releasedOn u hit (u .interaction .pressed)
 appliedEvent u hit (TextEntered ch) = editFocused u (Char ch) (u .interaction .focus)
@@ -115,7 +116,7 @@ appliedEvent u hit (Edit op) = editFocused u (Op op) (u .interaction .focus)
 
 -- The node under the pointer. Press, release and hover all go by it.
 unfoldable pub hitOf : Ui → MaybeId
-hitOf u = hitTest u (u .interaction .pointer)
+hitOf u = hitUnder u (u .interaction .pointer)
 
 unfoldable pub handled : Ui → UiEvent → Ui
 handled u event = let v = appliedEvent u (hitOf u) event in refreshed v (hitOf v)
@@ -131,10 +132,15 @@ takeOldest u (d ∷ ds) = gives (withWaiting u ds) (Present d)
 unfoldable pub nextOutput : Ui → Outcome MaybeId
 nextOutput u = guarded u Absent (takeOldest u (waitingOf u))
 
+-- The pointer's bytes: x and y, then 1; of a pointer that is nowhere 0 and 0, then 0.
+abbrev pub pointerBytes : Pointer → List ℕ
+pointerBytes Nowhere = lowBytes 4 0 ++ lowBytes 4 0 ++ lowBytes 4 0
+pointerBytes (Placed pixel) = lowBytes 4 (unsignedOf (pixel .x)) ++ lowBytes 4 (unsignedOf (pixel .y)) ++ lowBytes 4 1
+
 -- The fingerprint: the interaction on a fold that stands at some state.
 abbrev pub interactionBytes : Interaction → List ℕ
 interactionBytes a =
-    lowBytes 4 (unsignedOf (a .pointer .x)) ++ lowBytes 4 (unsignedOf (a .pointer .y)) ++ maybeBytes (a .pressed) ++ maybeBytes (a .focus)
+    pointerBytes (a .pointer) ++ maybeBytes (a .pressed) ++ maybeBytes (a .focus)
     ++ lowBytes 8 (a .activations) ++ lowBytes 8 (a .decisions) ++ lowBytes 8 (a .overflowed) ++ lowBytes 8 (a .«edit_fold»)
 
 unfoldable pub absorb : Ui → StateHash → Outcome ℕ

@@ -10,6 +10,7 @@ ghost use Rattle.tree.specs.Trees.{limitOf, withInteraction, withWaiting};
 ghost use Rattle.arithmetic.specs.Tests.{over, same};
 ghost use Rattle.tree.specs.declared.Ui.{Ui};
 ghost use Rattle.field.specs.declared.MaybeId.{MaybeId};
+ghost use Rattle.boxes.specs.declared.Pointer.the-variants.{Placed};
 ghost use Rattle.desk.specs.Support.Parts.{partsOf, withParts, hasLive};
 ghost use Rattle.desk.specs.Events as events;
 ghost use Rattle.desk.specs.Events.{pointedAt, pressedOn, foldedBy, idBytes, keyBytes, releasedOn, keyedField, editFocused};
@@ -25,6 +26,7 @@ use field::Field;
 use field::MaybeId;
 use field::NodeId;
 use tree::Interaction;
+use tree::Pixel;
 use tree::Pointer;
 use tree::Ui;
 use tree::fields;
@@ -33,13 +35,13 @@ use tree::links;
 
 // The pointer elsewhere.
 fn point(p: Parts, x: i32, y: i32) -> Parts
-    ensures { λ r. ⌜ ((u : Ui) → withParts u r ≡ withInteraction (withParts u p) (pointedAt (p .interaction) (record { x = x; y = y }))) ⌝ }
+    ensures { λ r. ⌜ ((u : Ui) → withParts u r ≡ withInteraction (withParts u p) (pointedAt (p .interaction) (Placed (record { x = x; y = y })))) ⌝ }
 {
     let a = p.interaction;
     let pressed = a.pressed;
     let focus = a.focus;
     let next = Interaction {
-        pointer: Pointer { x: x, y: y },
+        pointer: Pointer::Placed(Pixel { x: x, y: y }),
         pressed: pressed,
         focus: focus,
         activations: a.activations,
@@ -265,7 +267,7 @@ pub(crate) fn pointer_after(pointer: Pointer, event: UiEvent) -> Pointer
     ensures { λ r. ⌜ ((u : Ui) (hit : MaybeId) → u .interaction .pointer ≡ pointer → events.appliedEvent u hit event .interaction .pointer ≡ r) ⌝ }
 {
     match event {
-        UiEvent::PointerMoved { x, y } => Pointer { x: x, y: y },
+        UiEvent::PointerMoved { x, y } => Pointer::Placed(Pixel { x: x, y: y }),
         UiEvent::PointerPressed => pointer,
         UiEvent::PointerReleased => pointer,
         UiEvent::TextEntered { ch: _ } => pointer,

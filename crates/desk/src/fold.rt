@@ -3,7 +3,7 @@ ghost use mathlib.Core.Path.{_≡_};
 ghost use mathlib.Core.List.{_++_};
 ghost use Rattle.arithmetic.specs.Fold.{lowBytes, emptyHash, absorbed};
 ghost use Rattle.arithmetic.specs.Scalar.{unsignedOf};
-ghost use Rattle.desk.specs.Events.{idBytes, maybeBytes, opCode, keyBytes, interactionBytes};
+ghost use Rattle.desk.specs.Events.{idBytes, maybeBytes, opCode, keyBytes, pointerBytes, interactionBytes};
 use crate::Key;
 use arithmetic::fold::StateHash;
 use arithmetic::scalar;
@@ -11,6 +11,7 @@ use field::EditOp;
 use field::MaybeId;
 use field::NodeId;
 use tree::Interaction;
+use tree::Pointer;
 
 // The state after an id.
 fn absorb_id(hash: StateHash, d: NodeId) -> StateHash
@@ -92,6 +93,22 @@ fn absorb_pixel(hash: StateHash, x: i32, y: i32) -> StateHash
     first.absorb_u32(scalar::cast_unsigned(y))
 }
 
+// The state after the pointer: its pixel and 1, or three times 0 where it is nowhere.
+fn absorb_pointer(hash: StateHash, pointer: Pointer) -> StateHash
+    ensures { λ r. ⌜ r ≡ absorbed hash (pointerBytes pointer) ⌝ }
+{
+    match pointer {
+        Pointer::Nowhere => {
+            let pixel = absorb_pixel(hash, 0, 0);
+            pixel.absorb_u32(0)
+        }
+        Pointer::Placed(at) => {
+            let pixel = absorb_pixel(hash, at.x, at.y);
+            pixel.absorb_u32(1)
+        }
+    }
+}
+
 // The state after all that the tree remembers between events.
 pub(crate) fn absorb_interaction(hash: StateHash, a: Interaction) -> StateHash
     ensures { λ r. ⌜ r ≡ absorbed hash (interactionBytes a) ⌝ }
@@ -99,7 +116,7 @@ pub(crate) fn absorb_interaction(hash: StateHash, a: Interaction) -> StateHash
     let at = a.pointer;
     let held = a.pressed;
     let focused = a.focus;
-    let pointer = absorb_pixel(hash, at.x, at.y);
+    let pointer = absorb_pointer(hash, at);
     let pressed = absorb_maybe(pointer, held);
     let focus = absorb_maybe(pressed, focused);
     let activations = focus.absorb_u64(a.activations);

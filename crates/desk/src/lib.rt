@@ -59,8 +59,8 @@ pub fn handle(mut u: Ui, event: UiEvent) -> Changed
     }
     let interaction = u.interaction;
     let pointer = interaction.pointer;
-    let pixel = events::pointer_after(pointer, event);
-    let hit = input::hit_test(u, pixel);
+    let pointed = events::pointer_after(pointer, event);
+    let hit = input::under_pointer(u, pointed);
     let parts = events::applied_event(u, hit, event);
     let after = parts.interaction;
     let fields = parts.fields;

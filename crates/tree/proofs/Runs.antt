@@ -5,6 +5,7 @@ use mathlib.Core.Path.{_≡_, refl}
 use lib.IntN.{pos}
 use Rattle.field.specs.declared.NodeId.{NodeId}
 use Rattle.boxes.specs.declared.Viewport.{Viewport}
+use Rattle.boxes.specs.declared.StartKind.the-variants.{New}
 use Rattle.arithmetic.specs.Scalar.{stop, addSat, subSat, gapTimes, maxOf, unsignedOf}
 use Rattle.arithmetic.specs.Tests.{within, same, δ}
 use Rattle.text.specs.Utf8.{isScalar, allScalars, encoded, encodedAll, encodedAs}
@@ -34,11 +35,11 @@ abbrev view : Viewport
 view = record { width = pos 320; height = pos 200 }
 
 -- A node gets a field and goes, and the next takes its slot.
-pub a-reused-slot-has-no-field : fieldText (insert (remove (makeField (insert (newTree 2 .next) (named 0 1) .next) (named 1 1) .next) (named 1 1) .next) (named 0 1) .next) (named 1 2) .answer .number ≡ 8
+pub a-reused-slot-has-no-field : fieldText (insert (remove (makeField (insert (newTree New 2 .next) (named 0 1) .next) (named 1 1) .next) (named 1 1) .next) (named 0 1) .next) (named 1 2) .answer .number ≡ 8
 unfolding computing
 a-reused-slot-has-no-field = refl
 
 -- A pass, a node more, and a pass for the same viewport: two passes are counted.
-pub an-insert-makes-a-pass-due : solve (insert (solve (newTree 2 .next) view .next) (named 0 1) .next) view .next .«layout_passes» ≡ 2
+pub an-insert-makes-a-pass-due : solve (insert (solve (newTree New 2 .next) view .next) (named 0 1) .next) view .next .«layout_passes» ≡ 2
 unfolding computing
 an-insert-makes-a-pass-due = refl

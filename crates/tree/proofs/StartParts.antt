@@ -1,4 +1,4 @@
--- The new tree of n slots has every part: the root alone, named first, its slots, layout, states and fields as new. Assumes nothing.
+-- The new tree of n slots, wherever its pointer is, has every part: the root alone, named first, its slots, layout, states and fields as new. Assumes nothing.
 use mathlib.Core.Path.{_≡_, refl, sym}
 use mathlib.Core.List.{List, [], _∷_}
 use Prim.Native.Nat.{ℕ, zero, suc, _+_, _-_, _≤_, _<_}
@@ -14,6 +14,7 @@ use Rattle.arena.specs.Slots.{Slots, at, nobody}
 use Rattle.boxes.specs.Styles.{freshLayout, freshState, freshStyle, noState, layoutAt, stateAt}
 use Rattle.arena.specs.Fields.{fieldOf}
 use Rattle.arena.specs.Rules.{distinct, ownersWell}
+use Rattle.boxes.specs.declared.Pointer.{Pointer}
 use Rattle.tree.specs.Calls.{fresh}
 use Rattle.arithmetic.proofs.TestLaws.{δ-refl}
 use Rattle.arena.proofs.Forests.ForestLaws.{cnt}
@@ -41,12 +42,12 @@ unfolding emptyField
 empty-fields-are-ruled s t zero = tt
 empty-fields-are-ruled s t (suc m) = ((empty-field-keeps-the-rules, refl, tt), empty-fields-are-ruled s t m)
 
-module _ (n : ℕ) (l : 1 ≤ n) (h : n ≤ 128) where
-  pub start-has-links : Links 0 (fresh n) onlyRoot
+module _ (p : Pointer) (n : ℕ) (l : 1 ≤ n) (h : n ≤ 128) where
+  pub start-has-links : Links 0 (fresh p n) onlyRoot
   unfolding fresh
   start-has-links = record { chain = fromTo 1 (n - 1); rel = start-rel n (newInfo 0) l h; count = refl; young = start-generations n }
 
-  pub start-has-names : Naming (fresh n .slots) onlyRoot onlyName
+  pub start-has-names : Naming (fresh p n .slots) onlyRoot onlyName
   unfolding fresh
   start-has-names = record {
     own = ((omega arith, refl), tt, tt);
@@ -54,11 +55,11 @@ module _ (n : ℕ) (l : 1 ≤ n) (h : n ≤ 128) where
     apart = λ m m′ b b′ e. omega arith;
   }
     where
-      go : (m : ℕ) → m < 1 → getD onlyName m nobody .generation < at (fresh n .slots) (getD onlyName m nobody .index) .generation + cnt (getD onlyName m nobody .index) onlyRoot
+      go : (m : ℕ) → m < 1 → getD onlyName m nobody .generation < at (fresh p n .slots) (getD onlyName m nobody .index) .generation + cnt (getD onlyName m nobody .index) onlyRoot
       go zero b = let e = start-root-generation n in let q = δ-refl 0 in omega arith
       go (suc m) b = absurd (omega arith)
 
-  pub start-has-styling : Styled (fresh n) onlyRoot
+  pub start-has-styling : Styled (fresh p n) onlyRoot
   unfolding fresh distinct
   start-has-styling = record {
     sized = (length-replicate 128 freshLayout, length-replicate 128 freshState);
@@ -73,19 +74,19 @@ module _ (n : ℕ) (l : 1 ≤ n) (h : n ≤ 128) where
     well = λ j b. rw (all-states-are-fresh j (omega arith)) (a-bare-slot-is-well 0 freshStyle);
   }
 
-  pub start-has-a-pool : Pool (fresh n)
+  pub start-has-a-pool : Pool (fresh p n)
   unfolding fresh
   start-has-a-pool = record { long = refl; few = omega arith }
 
-  pub start-has-texts : Texts (fresh n .slots) (fresh n .fields) onlyRoot
+  pub start-has-texts : Texts (fresh p n .slots) (fresh p n .fields) onlyRoot
   unfolding fresh ownersWell fieldOf emptyField
   start-has-texts = record {
     eight = refl;
-    ruled = empty-fields-are-ruled (fresh n .slots) onlyRoot 8;
+    ruled = empty-fields-are-ruled (fresh p n .slots) onlyRoot 8;
     owners = refl;
     texts = (refl, tt, tt);
   }
 
-  pub start-has-a-queue : Queue (fresh n)
+  pub start-has-a-queue : Queue (fresh p n)
   unfolding fresh
   start-has-a-queue = record { long = length-replicate 128 nobody; few = omega arith }

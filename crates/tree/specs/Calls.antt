@@ -20,6 +20,7 @@ use Rattle.boxes.specs.Styles.{noRect, freshStyle, freshLayout, freshState, lay
 use Rattle.boxes.specs.States.{inPool, bareAll, resetStates}
 use Rattle.tree.specs.Wearing.{appearanceOf, styledAt, tabledAt}
 use Rattle.boxes.specs.Layout.{sameView, passed}
+use Rattle.boxes.specs.Pointers.{firstPointer}
 use Rattle.arena.specs.Fields.{fieldOf, vacant, reclaimed, claimed, firstField, Shown, noText}
 use Rattle.tree.specs.Trees.{limitOf, withNodes, withStyles, withPool, withFields, withPass}
 use Rattle.tree.specs.Broken.{broken}
@@ -29,6 +30,8 @@ use Rattle.boxes.specs.declared.Style.{Style}
 use Rattle.boxes.specs.declared.Rect.{Rect}
 use Rattle.boxes.specs.declared.StatePatch.{StatePatch}
 use Rattle.boxes.specs.declared.Viewport.{Viewport}
+use Rattle.boxes.specs.declared.Pointer.{Pointer}
+use Rattle.boxes.specs.declared.StartKind.{StartKind}
 
 -- What a call gives: the next tree, and its answer.
 pub record Outcome (A : Type 0) : Type 0 where
@@ -48,13 +51,14 @@ guarded u none o = cond (broken u) (refuses u Broken none) o
 unfoldable pub onLive : {A : Type 0} → Ui → NodeId → A → Outcome A → Outcome A
 onLive u d none o = guarded u none (cond (isLive (limitOf u) (u .slots) d) o (refuses u Missing none))
 
-unfoldable pub fresh : ℕ → Ui
-fresh n = record {
+-- The tree of n slots that has its root alone, with the pointer as given.
+unfoldable pub fresh : Pointer → ℕ → Ui
+fresh first n = record {
   slots = newSlots n 0 128;
   layout = replicate 128 freshLayout;
   dirty = true;
   «solved_for» = record { width = pos 0; height = pos 0 };
-  interaction = record { pointer = record { x = pos 0; y = pos 0 }; pressed = Absent; focus = Absent; activations = 0; decisions = 0; «edit_fold» = 0; overflowed = 0 };
+  interaction = record { pointer = first; pressed = Absent; focus = Absent; activations = 0; decisions = 0; «edit_fold» = 0; overflowed = 0 };
   outputs = replicate 128 nobody;
   «output_count» = 0;
   states = replicate 128 freshState;
@@ -69,9 +73,11 @@ fresh n = record {
   fields = replicate 8 emptyField;
 }
 
--- A limit of 0 means 1; one above 128 is refused, with the tree of limit 1.
-unfoldable pub newTree : ℕ → Outcome ℕ
-newTree limit = cond (ltb 128 limit) (refuses (fresh 1) Large 0) (gives (fresh (cond (same limit 0) 1 limit)) 0)
+-- What a start gives: the two share all but the pointer. A limit of 0 means 1; one above 128 is refused, with the tree of limit 1.
+unfoldable pub newTree : StartKind → ℕ → Outcome ℕ
+newTree kind limit =
+    let first = firstPointer kind in
+    cond (ltb 128 limit) (refuses (fresh first 1) Large 0) (gives (fresh first (cond (same limit 0) 1 limit)) 0)
 
 -- A new last child of slot p, in the first free slot.
 unfoldable pub insertAt : Ui → ℕ → Ui

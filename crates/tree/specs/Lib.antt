@@ -13,6 +13,7 @@ pub use Rattle.boxes.specs.Geometry
 pub use Rattle.boxes.specs.States
 pub use Rattle.boxes.specs.Layout
 pub use Rattle.boxes.specs.Hit
+pub use Rattle.boxes.specs.Pointers
 pub use Rattle.arena.specs.Fields
 pub use Rattle.arena.specs.Rules
 pub use Rattle.arena.specs.Forest

@@ -17,7 +17,7 @@ use Rattle.tree.specs.Trees.{limitOf}
 use Rattle.tree.specs.Broken.{broken}
 use Rattle.tree.specs.Input.{hitTest}
 use Rattle.tree.specs.Calls.{removeAt}
-use Rattle.boxes.specs.declared.Pointer.{Pointer}
+use Rattle.boxes.specs.declared.Pixel.{Pixel}
 use Rattle.tree.specs.declared.Ui.{Ui}
 
 -- The tree is the forest, of whose nodes nothing but the ids is said.
@@ -43,7 +43,7 @@ pub record WholeTree (u : Ui) : Type 0 where
       → (j : ℕ) → occ j (freeing (unlink (u .slots) (d .index)) (d .index)) + cnt j (cutOf d forest) ≡ cnt j forest
   pub leaves-the-rest : (d : NodeId) → isLive (limitOf u) (u .slots) d ≡ true → d .index ≢ 0 → Spells (removeAt u (d .index)) (cutOf d forest)
   -- the node that a hit test names holds the pixel, and none of its children does
-  pub goes-all-the-way-down : (pixel : Pointer) (d : NodeId) → hitTest u pixel ≡ Present d
+  pub goes-all-the-way-down : (pixel : Pixel) (d : NodeId) → hitTest u pixel ≡ Present d
       → (holdsAt (u .layout) pixel (d .index) ≡ true) × ((c : ℕ) → 0 < occ c (kidsAt (u .slots) (d .index)) → holdsAt (u .layout) pixel c ≡ false)
 
 -- Of every `Ui`: its array has 128 slots.

@@ -10,6 +10,7 @@ ghost use mathlib.Core.Path.{_≡_};
 ghost use Rattle.tree.specs.Answers.{precheck, fieldPlace, changedOf, insertedOf, rectOf, livenessOf, neighbourOf, fieldTextOf, caretAnswer};
 ghost use Rattle.tree.specs.Calls.{newTree, insert, remove, live, rect, firstChild, nextSibling, fieldText, fieldCursor, makeField, takeField, solve, setStyle, setStateTable, setPatchPool};
 ghost use Rattle.arithmetic.specs.Tests.{nothing};
+ghost use Rattle.boxes.specs.declared.StartKind.the-variants.{New, AtOrigin};
 use answers::Caret;
 use answers::Changed;
 use answers::FieldPlace;
@@ -28,9 +29,11 @@ pub use boxes::Align;
 pub use boxes::Direction;
 pub use boxes::Edges;
 pub use boxes::LayoutSlot;
+pub use boxes::Pixel;
 pub use boxes::Pointer;
 pub use boxes::Rect;
 pub use boxes::Size;
+pub use boxes::StartKind;
 pub use boxes::StatePatch;
 pub use boxes::StateSlot;
 pub use boxes::Style;
@@ -87,27 +90,18 @@ pub struct Ui {
 }
 
 impl Ui {
-    // A tree with its root alone. A limit of 0 means 1; above 128 it is refused, and the tree has the limit 1.
+    // A tree with its root alone, and the pointer nowhere. A limit of 0 means 1; above 128 it is refused, and the tree has the limit 1.
     pub fn new(limits: UiLimits) -> Changed
-        ensures { λ r. ⌜ changedOf r ≡ newTree (limits .nodes) ⌝ }
+        ensures { λ r. ⌜ changedOf r ≡ newTree New (limits .nodes) ⌝ }
     {
-        let n = limits.nodes;
-        if 128 < n {
-            return Changed {
-                verdict: Verdict::Refused(Refusal::Large),
-                tree: start::fresh(1),
-            };
-        }
-        if n == 0 {
-            return Changed {
-                verdict: Verdict::Accepted,
-                tree: start::fresh(1),
-            };
-        }
-        Changed {
-            verdict: Verdict::Accepted,
-            tree: start::fresh(n),
-        }
+        start::new_tree(StartKind::New, limits.nodes)
+    }
+
+    // The same with the pointer at (0, 0).
+    pub fn at_origin(limits: UiLimits) -> Changed
+        ensures { λ r. ⌜ changedOf r ≡ newTree AtOrigin (limits .nodes) ⌝ }
+    {
+        start::new_tree(StartKind::AtOrigin, limits.nodes)
     }
 
     // The id of a new tree's root.

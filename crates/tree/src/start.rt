@@ -1,21 +1,27 @@
-// `Ui::new`: the tree that has its root alone.
+// The two starts: the tree that has its root alone, with the pointer nowhere or at (0, 0).
 ghost use mathlib.Core.Path.{_≡_};
-ghost use mathlib.Core.Bool.{false};
+ghost use mathlib.Core.Bool.{false, cond};
+ghost use lib.Dec.{ltb};
 ghost use lib.ListN.{replicate};
 ghost use Rattle.boxes.specs.Styles.{freshStyle};
 ghost use Rattle.field.specs.Fields.{emptyField};
-ghost use Rattle.tree.specs.Calls.{fresh};
-ghost use Rattle.arena.specs.Slots.{nobody};
+ghost use Rattle.tree.specs.Answers.{changedOf};
+ghost use Rattle.tree.specs.Calls.{fresh, newTree};
+ghost use Rattle.arena.specs.Slots.{NIL, nobody};
 use crate::Interaction;
 use crate::Pointer;
+use crate::StartKind;
 use crate::StatePatch;
 use crate::Ui;
 use crate::UiLimits;
 use crate::Viewport;
+use crate::answers::Changed;
 use boxes::start;
 use field::Field;
 use field::MaybeId;
 use field::NodeId;
+use text::refusal::Refusal;
+use text::refusal::Verdict;
 
 const NIL: u32 = 4294967295;
 
@@ -43,11 +49,11 @@ fn fresh_fields() -> [Field; 8]
     [Field::empty(); 8]
 }
 
-fn fresh_interaction() -> Interaction
-    ensures { λ r. ⌜ r ≡ fresh 1 .interaction ⌝ }
+fn fresh_interaction(pointer: Pointer) -> Interaction
+    ensures { λ r. ⌜ r ≡ fresh pointer 1 .interaction ⌝ }
 {
     Interaction {
-        pointer: Pointer { x: 0, y: 0 },
+        pointer: pointer,
         pressed: MaybeId::Absent,
         focus: MaybeId::Absent,
         activations: 0,
@@ -59,7 +65,7 @@ fn fresh_interaction() -> Interaction
 
 // The head of a fresh tree's free chain.
 fn fresh_free(n: u32) -> u32
-    ensures { λ r. ⌜ r ≡ fresh n .free ⌝ }
+    ensures { λ r. ⌜ r ≡ cond (ltb 1 n) 1 NIL ⌝ }
 {
     if 1 < n {
         return 1;
@@ -67,9 +73,9 @@ fn fresh_free(n: u32) -> u32
     NIL
 }
 
-// The tree of `n` slots that has its root alone.
-pub fn fresh(n: u32) -> Ui
-    ensures { λ r. ⌜ r ≡ fresh n ⌝ }
+// The tree of `n` slots that has its root alone, with the pointer as given.
+fn fresh(pointer: Pointer, n: u32) -> Ui
+    ensures { λ r. ⌜ r ≡ fresh pointer n ⌝ }
 {
     Ui {
         slots: start::new_slots(n),
@@ -79,7 +85,7 @@ pub fn fresh(n: u32) -> Ui
             width: 0,
             height: 0,
         },
-        interaction: fresh_interaction(),
+        interaction: fresh_interaction(pointer),
         outputs: fresh_outputs(),
         output_count: 0,
         states: start::fresh_states(),
@@ -92,5 +98,28 @@ pub fn fresh(n: u32) -> Ui
         live: 1,
         limits: UiLimits { nodes: n },
         fields: fresh_fields(),
+    }
+}
+
+// What a start gives. A limit of 0 means 1; above 128 it is refused, and the tree has the limit 1.
+pub fn new_tree(kind: StartKind, n: u32) -> Changed
+    ensures { λ r. ⌜ changedOf r ≡ newTree kind n ⌝ }
+{
+    let pointer = start::first_pointer(kind);
+    if 128 < n {
+        return Changed {
+            verdict: Verdict::Refused(Refusal::Large),
+            tree: fresh(pointer, 1),
+        };
+    }
+    if n == 0 {
+        return Changed {
+            verdict: Verdict::Accepted,
+            tree: fresh(pointer, 1),
+        };
+    }
+    Changed {
+        verdict: Verdict::Accepted,
+        tree: fresh(pointer, n),
     }
 }

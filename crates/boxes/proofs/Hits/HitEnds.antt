@@ -14,7 +14,7 @@ use Rattle.boxes.specs.Hit.{lastOf, descend, holdsAt, hitAt}
 use Rattle.arena.specs.Forest.{Forest, nil, node, size}
 use Rattle.arena.specs.declared.Slot.{Slot}
 use Rattle.boxes.specs.declared.LayoutSlot.{LayoutSlot}
-use Rattle.boxes.specs.declared.Pointer.{Pointer}
+use Rattle.boxes.specs.declared.Pixel.{Pixel}
 use Rattle.arithmetic.proofs.TestLaws.{eq-cases, bool-cases}
 use Rattle.arena.proofs.Forests.ForestLaws.{firstOr, cnt, top}
 use Rattle.arena.proofs.Forests.Segments.{SegR}
@@ -113,7 +113,7 @@ module _ {X : Type 0} {n : ℕ} {s : Slots} {free : ℕ} {t : Forest X} {fl : Li
       ends-below s p 128 0 (R .below) (ap (λ (x : Slot). x .«first_child») (q .0)) (q .1) (λ j c. z j (omega arith)) (omega arith) (omega arith)
 
   -- the node hit holds the pixel, and none of its children does
-  pub a-hit-test-goes-all-the-way-down : (l : List LayoutSlot) (pixel : Pointer) (d : NodeId) → hitAt s l pixel ≡ Present d
+  pub a-hit-test-goes-all-the-way-down : (l : List LayoutSlot) (pixel : Pixel) (d : NodeId) → hitAt s l pixel ≡ Present d
       → (holdsAt l pixel (d .index) ≡ true) × ((c : ℕ) → 0 < occ c (kidsAt s (d .index)) → holdsAt l pixel c ≡ false)
   unfolding hitAt
   a-hit-test-goes-all-the-way-down l pixel d e =

@@ -16,10 +16,13 @@ use Rattle.boxes.specs.Styles.{layoutAt}
 use Rattle.boxes.specs.Layout.{holds}
 use Rattle.boxes.specs.Hit.{lastOf, descend, holdsAt, hitAt}
 use Rattle.arena.specs.Forest.{Forest, nil, node, size}
+use Rattle.boxes.specs.Pointers.{underPointer}
 use Rattle.boxes.specs.Nodes.{Info, hitF}
 use Rattle.arena.specs.declared.Slot.{Slot}
 use Rattle.boxes.specs.declared.LayoutSlot.{LayoutSlot}
+use Rattle.boxes.specs.declared.Pixel.{Pixel}
 use Rattle.boxes.specs.declared.Pointer.{Pointer}
+use Rattle.boxes.specs.declared.Pointer.the-variants.{Nowhere, Placed}
 use Rattle.arithmetic.proofs.TestLaws.{δ-refl, bool-cases}
 use Rattle.arena.proofs.Forests.ForestLaws.{firstOr, cnt}
 use Rattle.arena.proofs.Forests.Segments.{SegR}
@@ -133,12 +136,12 @@ descend-hit (suc k) s p h i cs e r al b hn hk =
 
 -- ---- index and name side by side
 
-record Both (t : Forest Info) (a : Slots) (pixel : Pointer) (i m : ℕ) (f : Forest Info) : Type 1 where
+record Both (t : Forest Info) (a : Slots) (pixel : Pixel) (i m : ℕ) (f : Forest Info) : Type 1 where
   name : ℕ
   same-name : hitF pixel (just m) f ≡ just name
   node-is : NodeNamed t (idAt a (hit (λ x. holds (pixel .x) (pixel .y) (x .rect)) i f)) name
 
-both-hit : (t : Forest Info) (a : Slots) (pixel : Pointer) (i m : ℕ) (f : Forest Info) (par pv nx : ℕ) → SegR a par pv f nx
+both-hit : (t : Forest Info) (a : Slots) (pixel : Pixel) (i m : ℕ) (f : Forest Info) (par pv nx : ℕ) → SegR a par pv f nx
     → ((j : ℕ) → cnt j f ≤ cnt j t) → ((P : ℕ → ℕ → Info → Type 0) → AllF P t → AllF P f) → NodeNamed t (idAt a i) m → Both t a pixel i m f
 both-hit t a pixel i m nil par pv nx r c al n = record { name = m; same-name = refl; node-is = n }
 both-hit t a pixel i m (node k g x cs sib) par pv nx r c al n =
@@ -168,7 +171,7 @@ both-hit t a pixel i m (node k g x cs sib) par pv nx r c al n =
       node-is = subst (λ (z : Bool). NodeNamed t (idAt a (hit h (cond z (hit h k cs) i) sib)) (J .name)) (sym b) (J .node-is);
     })
 
-from-the-root : (a : Slots) (l : List LayoutSlot) (pixel : Pointer) (g : ℕ) (x : Info) (cs : Forest Info) → SegR a NIL NIL (node 0 g x cs nil) NIL → Boxed l (node 0 g x cs nil)
+from-the-root : (a : Slots) (l : List LayoutSlot) (pixel : Pixel) (g : ℕ) (x : Info) (cs : Forest Info) → SegR a NIL NIL (node 0 g x cs nil) NIL → Boxed l (node 0 g x cs nil)
     → InRange (node 0 g x cs nil) → size cs ≤ 128 → Names (node 0 g x cs nil) (hitAt a l pixel) (hitF pixel nothing (node 0 g x cs nil))
 unfolding hitAt holdsAt
 from-the-root a l pixel g x cs r bx b hn =
@@ -190,7 +193,7 @@ from-the-root a l pixel g x cs r bx b hn =
     (λ c. subst (λ (z : Bool). Names t (cond z (Present (idAt a (descend p 128 a 0))) Absent) (hitF pixel nothing t)) (sym (p0 ∙ c))
     (subst (λ (z : Bool). Names t Absent (cond z (hitF pixel (just (x .name)) cs) nothing)) (sym c) neither))
 
-pub the-hit-test-names-the-forests-node : {n : ℕ} {free : ℕ} {t : Forest Info} {fl : List ℕ} (a : Slots) (l : List LayoutSlot) (pixel : Pointer)
+the-hit-test-names-the-forests-node : {n : ℕ} {free : ℕ} {t : Forest Info} {fl : List ℕ} (a : Slots) (l : List LayoutSlot) (pixel : Pixel)
     → Rel n a free t fl → Boxed l t → Names t (hitAt a l pixel) (hitF pixel nothing t)
 the-hit-test-names-the-forests-node {t = t} a l pixel r bx =
     let R = one-root t (r .root) in
@@ -202,6 +205,12 @@ the-hit-test-names-the-forests-node {t = t} a l pixel r bx =
     (subst (λ (z : Forest Info). SegR a NIL NIL z NIL) w (r .links))
     (subst (λ (z : Forest Info). Boxed l z) w bx)
     (subst (λ (z : Forest Info). InRange z) w (rel-in-range r)) (omega arith))
+
+-- so it is under the pointer, and where the pointer is nowhere neither names a node
+pub the-pointer-names-the-forests-node : {n : ℕ} {free : ℕ} {t : Forest Info} {fl : List ℕ} (a : Slots) (l : List LayoutSlot) (pointer : Pointer)
+    → Rel n a free t fl → Boxed l t → Names t (underPointer Absent (hitAt a l) pointer) (underPointer nothing (λ pixel. hitF pixel nothing t) pointer)
+the-pointer-names-the-forests-node a l Nowhere r bx = neither
+the-pointer-names-the-forests-node a l (Placed pixel) r bx = the-hit-test-names-the-forests-node a l pixel r bx
 
 -- ---- what it says either way
 

@@ -10,11 +10,11 @@ use Rattle.boxes.specs.Styles.{noLayout, layoutAt}
 use Rattle.boxes.specs.Layout.{holds}
 use Rattle.boxes.specs.Hit.{lastOf, descend, holdsAt}
 use Rattle.boxes.specs.declared.LayoutSlot.{LayoutSlot}
-use Rattle.boxes.specs.declared.Pointer.{Pointer}
+use Rattle.boxes.specs.declared.Pixel.{Pixel}
 use Rattle.arena.proofs.Forests.ChainLaws.{chain-more}
 
 -- The children of a slot from its first on.
-pub kids-whole : (l : List LayoutSlot) (pixel : Pointer) (s : Slots) (i : ℕ) → lastOf (holdsAt l pixel) i (chain 128 s (at s i .«first_child»)) ≡ lastOf (holdsAt l pixel) i (kidsAt s i)
+pub kids-whole : (l : List LayoutSlot) (pixel : Pixel) (s : Slots) (i : ℕ) → lastOf (holdsAt l pixel) i (chain 128 s (at s i .«first_child»)) ≡ lastOf (holdsAt l pixel) i (kidsAt s i)
 unfolding kidsAt
 kids-whole l pixel s i = refl
 
@@ -48,6 +48,6 @@ unfolding descend
 descend-ends p k s i h = rw h
 
 -- The test of an element read from the array.
-pub holds-at : (l : List LayoutSlot) (pixel : Pointer) (i : ℕ) (r : Bool) → r ≡ holds (pixel .x) (pixel .y) (getD l i noLayout .rect) → r ≡ holdsAt l pixel i
+pub holds-at : (l : List LayoutSlot) (pixel : Pixel) (i : ℕ) (r : Bool) → r ≡ holds (pixel .x) (pixel .y) (getD l i noLayout .rect) → r ≡ holdsAt l pixel i
 unfolding holdsAt layoutAt
 holds-at l pixel i r h = h

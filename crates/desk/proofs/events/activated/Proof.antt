@@ -15,7 +15,7 @@ lost-count-requires c κs = search needs
 
 returns : tie.Need-returns
 unfolding activated
-returns c = rw (← (c .before .before .increment .ensures), ← (c .before .before .before .decision-fold .ensures), ← (c .before .lost-count .ensures))
+returns c = rw (← (c .before .increment .ensures), ← (c .before .before .decision-fold .ensures), ← (c .lost-count .ensures))
 
 pub activated-spec : {M : Type 1} → statement M
 activated-spec =

@@ -1,15 +1,12 @@
 -- By the test of the limit. Assumes nothing.
 use borrow.Author.Tests.{lt-ltb, le-ltb}
-use Rattle.tree.specs.Calls.{fresh}
 use Rattle.tree.proofs.start.fresh_free.Statement.{statement}
 use Rattle.tree.proofs.start.fresh_free.Tie as tie
 
 returns : tie.Need-returns
-unfolding fresh
 returns c = rw (lt-ltb _ _ (c .if1 .taken))
 
 returns-2 : tie.Need-returns-2
-unfolding fresh
 returns-2 c = rw (le-ltb _ _ (c .if1 .left))
 
 pub fresh-free-spec : {M : Type 1} → statement M

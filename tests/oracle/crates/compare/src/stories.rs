@@ -5,6 +5,7 @@ mod answers;
 mod boxes;
 mod fields;
 mod pointer;
+mod starts;
 mod states;
 mod tree;
 
@@ -13,14 +14,16 @@ use crate::author::{Author, id};
 type Story = fn(&mut Author);
 
 /// The stories with how often each is told.
-const STORIES: [(usize, Story); 30] = [
+const STORIES: [(usize, Story); 32] = [
     (12, tree::grow_tree),
     (7, tree::restyle),
     (8, tree::pass),
     (8, tree::tidy),
     (6, tree::remove_some),
     (2, tree::deep_chain),
-    (2, tree::anew),
+    (2, starts::anew),
+    (2, starts::refused),
+    (6, starts::corner),
     (10, pointer::wander),
     (10, pointer::click_some),
     (10, pointer::reuse_under_press),
@@ -59,7 +62,7 @@ pub fn opening(author: &mut Author) {
     if author.rng.chance(15) {
         pointer::early_events(author);
     }
-    tree::new_tree(author);
+    starts::new_tree(author);
     if author.rng.chance(30) {
         pointer::early_events(author);
     }

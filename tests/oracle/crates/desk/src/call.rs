@@ -7,6 +7,7 @@ use crate::parse::Words;
 #[derive(Clone, Debug)]
 pub enum Call {
     New(u32),
+    Origin(u32),
     Insert(NodeId),
     Remove(NodeId),
     Style(NodeId, Box<Style>),
@@ -37,6 +38,7 @@ impl Call {
         let mut words = Words::new(line);
         let call = match words.word()? {
             b"new" => Self::New(words.number()?),
+            b"origin" => Self::Origin(words.number()?),
             b"insert" => Self::Insert(words.id()?),
             b"remove" => Self::Remove(words.id()?),
             b"style" => Self::Style(words.id()?, Box::new(words.style()?)),

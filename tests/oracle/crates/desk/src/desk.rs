@@ -31,12 +31,8 @@ pub struct Desk {
 
 impl Default for Desk {
     fn default() -> Self {
-        Self { ui: tree_of(1), waiting: Vec::new() }
+        Self { ui: Ui::new(UiLimits { nodes: 1 }), waiting: Vec::new() }
     }
-}
-
-fn tree_of(nodes: u32) -> Ui {
-    Ui::new(UiLimits { nodes })
 }
 
 impl Desk {
@@ -53,7 +49,8 @@ impl Desk {
     /// The line that a call writes; `None` is a call that the console page calls malformed.
     pub fn answer(&mut self, call: Call) -> Option<String> {
         let line = match call {
-            Call::New(limit) => bare(self.renew(limit)),
+            Call::New(limit) => bare(self.renew(limit, Ui::new)),
+            Call::Origin(limit) => bare(self.renew(limit, Ui::at_origin)),
             Call::Insert(parent) => shown(self.insert(parent).map(show_id), "0 0"),
             Call::Remove(node) => bare(self.remove(node)),
             Call::Style(node, style) => bare(accepted(self.ui.set_style(node, *style), MISSING)),
@@ -89,9 +86,10 @@ impl Desk {
         Some(line)
     }
 
-    fn renew(&mut self, limit: u32) -> Result<(), u8> {
+    /// A start, at limit 1 where it is refused.
+    fn renew(&mut self, limit: u32, start: fn(UiLimits) -> Ui) -> Result<(), u8> {
         let large = limit > MOST_NODES;
-        self.ui = tree_of(if large { 1 } else { limit });
+        self.ui = start(UiLimits { nodes: if large { 1 } else { limit } });
         accepted(!large, LARGE)
     }
 

@@ -5,7 +5,7 @@ use renew_frame::StateHash;
 
 use crate::layout::{Align, Direction, Edges, LayoutSlot, Rect, Size, Style};
 use crate::state::StateSlot;
-use crate::{Fixed, NIL, NodeId, Slot, Ui, UiOutput};
+use crate::{Fixed, NIL, NodeId, Slot, Ui, UiLimits, UiOutput};
 
 /// Named by lib.rs, used by nobody here.
 pub struct Document;
@@ -22,6 +22,20 @@ impl NodeId {
 }
 
 impl Ui {
+    /// The start with a placed pointer, of wish 2 of document 02; `new` leaves it nowhere.
+    #[must_use]
+    pub fn at_origin(limits: UiLimits) -> Self {
+        let mut ui = Self::new(limits);
+        ui.interaction.pointer = Some((0, 0));
+        ui
+    }
+
+    /// The pointer; none while it is nowhere.
+    #[must_use]
+    pub fn pointer(&self) -> Option<(i32, i32)> {
+        self.interaction.pointer
+    }
+
     /// What `children` gives first; none for a dead node.
     #[must_use]
     pub fn first_child(&self, node: NodeId) -> Option<NodeId> {
@@ -89,8 +103,11 @@ impl Ui {
 
     fn digest_interaction(&self, hash: StateHash) -> StateHash {
         let state = &self.interaction;
-        let hash =
-            hash.absorb_u32(state.pointer.0.cast_unsigned()).absorb_u32(state.pointer.1.cast_unsigned());
+        let (x, y) = self.pointer().unwrap_or_default();
+        let hash = hash
+            .absorb_u32(x.cast_unsigned())
+            .absorb_u32(y.cast_unsigned())
+            .absorb_u32(u32::from(self.pointer().is_some()));
         let hash = digest_id(hash, state.pressed);
         digest_id(hash, state.focus)
             .absorb_u64(state.activations)

@@ -83,7 +83,7 @@ pub fn reads(author: &mut Author) {
 
 /// Lines that are no call: each must write `?` and change nothing.
 pub fn malformed(author: &mut Author) {
-    const WHOLE: [&str; 30] = [
+    const WHOLE: [&str; 37] = [
         "",
         "#",
         "# a comment",
@@ -114,6 +114,13 @@ pub fn malformed(author: &mut Author) {
         "measure 0",
         "measure 0G",
         "measure",
+        "new",
+        "new 4294967296",
+        "origin",
+        "origin 1 2",
+        "origin -1",
+        "origin 4294967296",
+        "origin 01",
     ];
     for _ in 0..3 {
         let line = author.rng.pick(&WHOLE);

@@ -6,13 +6,20 @@ use crate::author::Author;
 use crate::stories::fields::keys;
 use crate::styles::{self, PX};
 
-/// Presses where nothing has a box yet, or where only the root does.
+/// Presses where nothing has a box yet, or where only the root does, with and without a move before.
 pub fn early_events(author: &mut Author) {
     let node = author.some_live();
     let inside = author.insert(node);
-    let point = author.rng.pick(&[(0, 0), (1, 0), (-1, -1), (5, 5)]);
-    author.move_to(point);
+    if author.rng.chance(60) {
+        let point = author.rng.pick(&[(0, 0), (1, 0), (-1, -1), (5, 5)]);
+        author.move_to(point);
+    }
+    if author.rng.chance(25) {
+        author.solve();
+        author.call("absorb cbf29ce484222325");
+    }
     author.call("press");
+    author.call("pressed");
     match author.rng.below(5) {
         0 | 1 => author.solve(),
         // A pass, though a fresh tree is said to be solved for just this viewport.
@@ -37,6 +44,7 @@ pub fn wander(author: &mut Author) {
         let point = match author.rng.below(20) {
             0 => (i32::MAX, i32::MIN),
             1 => (0, i32::MAX),
+            2 => author.rng.pick(&[(0, 0), (-1, -1), (i32::MIN, i32::MIN)]),
             _ => author.point_near(node),
         };
         author.move_to(point);

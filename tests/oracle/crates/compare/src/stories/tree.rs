@@ -3,44 +3,12 @@
 use crate::author::Author;
 use crate::stories::boxes::stage;
 use crate::stories::pointer::click;
-use crate::stories::states::patches;
+use crate::stories::starts::start;
 use crate::styles::{self, PX, Sizes};
-
-/// A tree of any limit, the refused ones too.
-pub fn new_tree(author: &mut Author) {
-    let small = author.rng.between(2, 6);
-    let middle = author.rng.between(7, 30);
-    let limit = author.rng.weighted(&[
-        (2, 0),
-        (3, 1),
-        (20, small),
-        (50, middle),
-        (2, 127),
-        (14, 128),
-        (3, 129),
-        (1, 1_000),
-        (1, i64::from(u32::MAX)),
-    ]);
-    author.call(format!("new {limit}"));
-    if limit > 128 && author.rng.chance(70) {
-        author.call("insert 0 1");
-        author.call("new 20");
-    }
-}
-
-/// Another tree in the middle of a script; waiting patches survive it.
-pub fn anew(author: &mut Author) {
-    if author.rng.chance(40) {
-        patches(author, 3);
-    }
-    new_tree(author);
-    grow_tree(author);
-    tidy(author);
-}
 
 /// The largest tree there is: all side by side, all inside one another, or as it comes.
 pub fn crowd(author: &mut Author) {
-    author.call("new 128");
+    start(author, 128);
     let shape = author.rng.below(3);
     let grow = 1 + author.rng.below(3);
     let style = format!("row auto auto 0 0 0 0 0 0 0 0 0 {grow} start start 0 0 0 0");
