@@ -32,6 +32,11 @@ def encoded(code):
     return chr(code).encode("utf-8") if is_scalar(code) else b""
 
 
+def length(code):
+    """How many bytes a u32 has, a character or not: what Python's codec gives, surrogates let through, and 4 past the last character."""
+    return len(chr(code).encode("utf-8", "surrogatepass")) if code <= 0x10FFFF else 4
+
+
 def decoded(data):
     try:
         return data.decode("utf-8", "strict")
@@ -77,10 +82,13 @@ def examples():
 
 
 def boundaries():
-    heading("The ends of the ranges of codes")
-    for code in [0, 0x7F, 0x80, 0x7FF, 0x800, 0xD7FF, 0xD800, 0xDFFF, 0xE000, 0xFFFF, 0x10000, 0x10FFFF, 0x110000]:
+    heading("The ends of the ranges of codes: the length by leading zeros, and what is written")
+    for code in [
+        0, 0x7F, 0x80, 0x7FF, 0x800, 0xD7FF, 0xD800, 0xDFFF, 0xE000, 0xFFFF, 0x10000, 0x10FFFF, 0x110000, 2**32 - 1,
+    ]:
         data = encoded(code)
-        say("%06x: length %d, bytes%s" % (code, len(data), spaced(data)))
+        assert not data or len(data) == length(code)
+        say("%06x: length %d, written %d, bytes%s" % (code, length(code), len(data), spaced(data)))
 
 
 STRINGS = [

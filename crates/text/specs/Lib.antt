@@ -1,5 +1,6 @@
 pub mod Refusal
 pub mod Utf8
+pub mod Lengths
 pub mod Reader
 pub mod Rfc3629
 pub mod Steps

@@ -1,7 +1,9 @@
-// UTF-8 as RFC 3629 has it: a reader that takes a byte at a time, the bytes of a character, and steps over whole characters.
+// UTF-8 as RFC 3629 has it: a reader that takes a byte at a time, the length and the bytes of a character, and steps over whole characters.
 ghost use mathlib.Core.Path.{_≡_};
+ghost use mathlib.Core.Bool.{true};
 ghost use Prim.Native.Nat.{_^_, _<_};
-ghost use Rattle.text.specs.Utf8.{encodedAs};
+ghost use Rattle.text.specs.Utf8.{isScalar, encoded, padded, encodedAs};
+ghost use Rattle.text.specs.Lengths.{lengthOf};
 ghost use Rattle.text.specs.Reader.{place, leadOf, stepOf, isUtf8};
 ghost use Rattle.text.specs.Steps.{isTail, stepBack, stepForward};
 
@@ -99,41 +101,53 @@ pub struct Encoded {
     pub len: u8,
 }
 
+// Whether a code is a character: a Unicode scalar value.
+fn is_scalar(code: u32) -> bool
+    ensures { λ r. ⌜ r ≡ isScalar code ⌝ }
+{
+    (code <= 0xd7ff) | ((0xe000 <= code) & (code <= 0x10ffff))
+}
+
+// How many bytes a character has. It is arithmetic on the count of leading zero bits without a branch, since branch coverage is reviewed by hand:
+// each quotient is 1 from 8, 12 and 17 bits on, and 0 before. Whether the code is a character is not asked: a surrogate has 3, a code past the last
+// character 4.
+pub fn length_of(code: u32) -> u8
+    ensures { λ r. ⌜ r ≡ lengthOf code ⌝ }
+{
+    let z = u32::leading_zeros(code);
+    (1 + (56 - z) / 32 + (52 - z) / 32 + (47 - z) / 32) as u8
+}
+
+// The bytes of a character that has `len` of them, and 0 behind them.
+fn bytes_of(code: u32, len: u8) -> [u8; 4]
+    requires { ⌜ (isScalar code ≡ true) × (len ≡ lengthOf code) ⌝ }
+    ensures { λ r. ⌜ r ≡ padded (encoded code) .bytes ⌝ }
+{
+    let last = (0x80 + code % 64) as u8;
+    let third = (0x80 + code / 64 % 64) as u8;
+    let second = (0x80 + code / 4096 % 64) as u8;
+    match len {
+        1 => [code as u8, 0, 0, 0],
+        2 => [(0xc0 + code / 64) as u8, last, 0, 0],
+        3 => [(0xe0 + code / 4096) as u8, third, last, 0],
+        _ => [(0xf0 + code / 262144) as u8, second, third, last],
+    }
+}
+
 // A character as UTF-8; no bytes for a code that is no character.
 pub fn encode(code: u32) -> Encoded
     ensures { λ r. ⌜ r ≡ encodedAs code ⌝ }
 {
-    let scalar = (code <= 0xd7ff) | ((0xe000 <= code) & (code <= 0x10ffff));
-    if !scalar {
+    if !is_scalar(code) {
         return Encoded {
             bytes: [0, 0, 0, 0],
             len: 0,
         };
     }
-    if code <= 0x7f {
-        return Encoded {
-            bytes: [code as u8, 0, 0, 0],
-            len: 1,
-        };
-    }
-    let last = (0x80 + code % 64) as u8;
-    if code <= 0x7ff {
-        return Encoded {
-            bytes: [(0xc0 + code / 64) as u8, last, 0, 0],
-            len: 2,
-        };
-    }
-    let third = (0x80 + code / 64 % 64) as u8;
-    if code <= 0xffff {
-        return Encoded {
-            bytes: [(0xe0 + code / 4096) as u8, third, last, 0],
-            len: 3,
-        };
-    }
-    let second = (0x80 + code / 4096 % 64) as u8;
+    let len = length_of(code);
     Encoded {
-        bytes: [(0xf0 + code / 262144) as u8, second, third, last],
-        len: 4,
+        bytes: bytes_of(code, len),
+        len,
     }
 }
 

@@ -87,12 +87,13 @@ fn examples() {
     example(&[0xfeff, 0x233b4]);
 }
 
-// A code, how many bytes it has, and the bytes.
+// A code, how many bytes it has by its leading zeros, and how many and which are written: none of a code that is no character.
 fn boundary(code: u32) {
     put_hex(wide(code), 6);
+    put_labelled(b": length ", utf8::length_of(code) as u64);
     let e = utf8::encode(code);
     let four = e.bytes;
-    put_labelled(b": length ", e.len as u64);
+    put_labelled(b", written ", e.len as u64);
     put(b", bytes");
     let n = io::count(e.len as isize, &four);
     put_bytes(&four[..n]);
@@ -100,7 +101,7 @@ fn boundary(code: u32) {
 }
 
 fn boundaries() {
-    heading(b"The ends of the ranges of codes");
+    heading(b"The ends of the ranges of codes: the length by leading zeros, and what is written");
     boundary(0);
     boundary(0x7f);
     boundary(0x80);
@@ -114,6 +115,7 @@ fn boundaries() {
     boundary(0x10000);
     boundary(0x10ffff);
     boundary(0x110000);
+    boundary(0xffffffff);
 }
 
 // A string, whether it is UTF-8, and what it measures.
