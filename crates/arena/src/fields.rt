@@ -14,7 +14,7 @@ use super::{Slot, links};
 use field::{Field, MaybeId, NodeId};
 
 // Where a field stands among the eight.
-#[derive(Drop)]
+#[derive(Clone, Copy)]
 pub enum Place {
     Nowhere,
     At(u32),

@@ -1,10 +1,12 @@
 // Slots, their links and the ids that name them; the link rules; the fields and their owners. All over arrays by value.
+#![tactic(auto)]
+
 pub mod fields;
 pub mod links;
 pub mod rules;
 
 // A slot's links. Of a dead slot only the next link means something: the free chain's.
-#[derive(Drop)]
+#[derive(Clone, Copy)]
 pub struct Slot {
     pub generation: u64,
     pub live: bool,

@@ -10,14 +10,14 @@ use crate::Slot;
 use field::{MaybeId, NodeId};
 
 // Slots listed: the first `count` items.
-#[derive(Drop)]
+#[derive(Clone, Copy)]
 pub struct Order {
     pub items: [u32; 128],
     pub count: u32,
 }
 
 // The slots after some were freed, and the head of the free chain.
-#[derive(Drop)]
+#[derive(Clone, Copy)]
 pub struct Freed {
     pub slots: [Slot; 128],
     pub free: u32,
@@ -194,7 +194,7 @@ fn none_listed() -> Order
 }
 
 // The links back of each slot: to its last child and to its previous sibling.
-#[derive(Drop)]
+#[derive(Clone, Copy)]
 struct LinksBack {
     last: [u32; 128],
     prev: [u32; 128],

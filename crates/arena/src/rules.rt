@@ -11,7 +11,7 @@ use crate::Slot;
 const NIL: u32 = 4294967295;
 
 // What a walk along links listed, the first `count` items, and whether the links that it went along are right.
-#[derive(Drop)]
+#[derive(Clone, Copy)]
 pub struct Walked {
     pub items: [u32; 128],
     pub count: u32,

@@ -3,7 +3,7 @@ ghost use Rattle.std.specs.Prelude.{◌≡◌, [], ◌∷◌};
 ghost use Rattle.arithmetic.specs.Fold.{fnv_byte, low_bytes, empty_hash, absorbed};
 
 // The state of a check sum.
-#[derive(Drop)]
+#[derive(Clone, Copy)]
 pub struct StateHash {
     pub state: u64,
 }

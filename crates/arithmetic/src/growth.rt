@@ -9,7 +9,7 @@ const DIGIT: u64 = 16777216;
 const TWO_DIGITS: u64 = 281474976710656;
 
 // What a division gives.
-#[derive(Drop)]
+#[derive(Clone, Copy)]
 struct Division {
     quotient: u64,
     remainder: u64,
@@ -43,7 +43,7 @@ fn grow_sum(grows: [u32; 128], n: usize) -> u64
 }
 
 // The shares before the missing units are given. A key is the remainder plus 1, which leaves 0 to mark a place that has had its unit.
-#[derive(Drop)]
+#[derive(Clone, Copy)]
 struct Parts {
     shares: [i64; 128],
     keys: [u64; 128],

@@ -1,5 +1,7 @@
 // What tests/bench measures beside the Rust source: trees of some shapes, and many calls of one kind on them. It is for that test alone;
 // its one public function passes numbers, and the times of its rounds.
+#![tactic(auto)]
+
 mod build;
 mod kinds;
 mod mix;

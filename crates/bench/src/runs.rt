@@ -10,7 +10,7 @@ use tree::answers::NewId;
 use tree::{Style, Ui, UiLimits};
 
 // The tree after the calls, and their answers mixed.
-#[derive(Drop)]
+#[derive(Clone, Copy)]
 pub(crate) struct Ran {
     pub tree: Ui,
     pub acc: u64,

@@ -19,7 +19,7 @@ pub(crate) const EIGHTS: u32 = 4;
 pub(crate) const PANEL: u32 = 5;
 
 // What a style is made from: pixels, and a width or height of 0 is automatic.
-#[derive(Drop)]
+#[derive(Clone, Copy)]
 struct Look {
     column: bool,
     width: u32,

@@ -14,7 +14,7 @@ use arena::rules::reach_root;
 use arithmetic::{growth, scalar};
 
 // Lengths along a parent's main and cross axis.
-#[derive(Drop)]
+#[derive(Clone, Copy)]
 struct Lengths {
     pub main: i64,
     pub cross: i64,
@@ -131,7 +131,7 @@ fn content_extent(style: Style, sum: Lengths, count: u32) -> Lengths
 }
 
 // A width and a height.
-#[derive(Drop)]
+#[derive(Clone, Copy)]
 struct Extent {
     pub width: i64,
     pub height: i64,
@@ -197,7 +197,7 @@ fn with_rect(l: LayoutSlot, rect: Rect) -> LayoutSlot
 }
 
 // A corner of a box, raw.
-#[derive(Drop)]
+#[derive(Clone, Copy)]
 struct Point {
     pub x: i64,
     pub y: i64,

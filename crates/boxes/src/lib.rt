@@ -1,5 +1,7 @@
 // What gives nodes their boxes: styles, states and patches, the pass, and the node under a pixel; and events. All over arrays by value:
 // no function here takes the whole tree.
+#![tactic(auto)]
+
 pub mod input;
 pub mod layout;
 pub mod nodes;
@@ -13,21 +15,21 @@ ghost use Rattle.boxes.specs.Styles.{sized_style};
 use field::EditOp;
 
 // Which way a node lays out its children.
-#[derive(Drop)]
+#[derive(Clone, Copy)]
 pub enum Direction {
     Row,
     Column,
 }
 
 // A width or a height: what the content needs, or a set raw number.
-#[derive(Drop)]
+#[derive(Clone, Copy)]
 pub enum Size {
     Auto,
     Px(i64),
 }
 
 // Where children sit along an axis that has space left.
-#[derive(Drop)]
+#[derive(Clone, Copy)]
 pub enum Align {
     Start,
     Center,
@@ -35,7 +37,7 @@ pub enum Align {
 }
 
 // Space on each side of a box, raw.
-#[derive(Drop)]
+#[derive(Clone, Copy)]
 pub struct Edges {
     pub left: i64,
     pub right: i64,
@@ -44,7 +46,7 @@ pub struct Edges {
 }
 
 // All that layout knows of a node, and its background.
-#[derive(Drop)]
+#[derive(Clone, Copy)]
 pub struct Style {
     pub direction: Direction,
     pub width: Size,
@@ -85,7 +87,7 @@ impl Style {
 }
 
 // A box, raw.
-#[derive(Drop)]
+#[derive(Clone, Copy)]
 pub struct Rect {
     pub x: i64,
     pub y: i64,
@@ -94,7 +96,7 @@ pub struct Rect {
 }
 
 // A slot's worn style, its box, and the size it wanted in the last pass.
-#[derive(Drop)]
+#[derive(Clone, Copy)]
 pub struct LayoutSlot {
     pub style: Style,
     pub rect: Rect,
@@ -103,7 +105,7 @@ pub struct LayoutSlot {
 }
 
 // A slot's patch numbers by state bits, its base style, the patch worn and the bits it is worn for.
-#[derive(Drop)]
+#[derive(Clone, Copy)]
 pub struct StateSlot {
     pub table: [u16; 16],
     pub base: Style,
@@ -112,42 +114,42 @@ pub struct StateSlot {
 }
 
 // A style to be worn, and whether wearing it moves boxes.
-#[derive(Drop)]
+#[derive(Clone, Copy)]
 pub struct StatePatch {
     pub style: Style,
     pub touches_layout: bool,
 }
 
 // A point in pixels.
-#[derive(Drop)]
+#[derive(Clone, Copy)]
 pub struct Pixel {
     pub x: i32,
     pub y: i32,
 }
 
 // The pointer: nowhere until it is first moved, then at a pixel.
-#[derive(Drop)]
+#[derive(Clone, Copy)]
 pub enum Pointer {
     Nowhere,
     Placed(Pixel),
 }
 
 // The two starts: `Ui::new`, where the pointer is nowhere, and `Ui::at_origin`, where it is at (0, 0).
-#[derive(Drop)]
+#[derive(Clone, Copy)]
 pub enum StartKind {
     New,
     AtOrigin,
 }
 
 // A viewport, raw.
-#[derive(Drop)]
+#[derive(Clone, Copy)]
 pub struct Viewport {
     pub width: i64,
     pub height: i64,
 }
 
 // An event: the pointer at a pixel, a press and a release of the one button, a typed character, an edit.
-#[derive(Drop)]
+#[derive(Clone, Copy)]
 pub enum UiEvent {
     PointerMoved { x: i32, y: i32 },
     PointerPressed,
@@ -157,7 +159,7 @@ pub enum UiEvent {
 }
 
 // What a key asks of the field in focus: a character, or an edit.
-#[derive(Drop)]
+#[derive(Clone, Copy)]
 pub enum Key {
     Char(u32),
     Op(EditOp),

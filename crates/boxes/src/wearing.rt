@@ -84,7 +84,7 @@ pub fn bare(base: Style) -> StateSlot
 }
 
 // Slots in turn: the first `count` items.
-#[derive(Drop)]
+#[derive(Clone, Copy)]
 pub struct Turns {
     pub items: [u32; 6],
     pub count: u32,
@@ -153,7 +153,7 @@ pub fn in_turn(
 }
 
 // Slots kept: the first `count` items.
-#[derive(Drop)]
+#[derive(Clone, Copy)]
 pub struct Kept {
     pub items: [u32; 3],
     pub count: u32,

@@ -13,7 +13,7 @@ use tree::Ui;
 use tree::answers::{Caret, Changed, Liveness, Neighbour, NewId, NodeRect, TextLength};
 
 // An answer: its number, and whether the tree and the bytes beside it are what a refusal leaves, the same tree and zeros.
-#[derive(Drop)]
+#[derive(Clone, Copy)]
 pub struct Answer {
     pub number: u8,
     pub untouched: bool,

@@ -5,7 +5,7 @@ use tree::answers::Changed;
 use tree::{Size, StatePatch, Style, Ui, UiLimits, Viewport};
 
 // Which tree the damage is done to.
-#[derive(Drop)]
+#[derive(Clone, Copy)]
 pub enum Base {
     // The root alone, of limit 1.
     Alone,

@@ -2,6 +2,8 @@
 // as it got it; a tree next to it that breaks nothing must be served. A line a rule, in document 01's order. Then fields, sound and broken, are
 // edited where they are, by lending them, and by value: the two are compared in number and in every byte, and with what the rules for one field
 // ask. A line an edit.
+#![tactic(auto)]
+
 mod asking;
 mod good;
 mod lending;

@@ -9,7 +9,7 @@ use text::Measured;
 use tree::{StatePatch, Style, Viewport};
 
 // What a line asks for. A text is measured as it is read: that needs no tree. A label's bytes are read where they are added.
-#[derive(Drop)]
+#[derive(Clone, Copy)]
 pub enum Word {
     Malformed,
     New(u32),
@@ -41,7 +41,7 @@ pub enum Word {
 }
 
 // What a call does to the tree.
-#[derive(Drop)]
+#[derive(Clone, Copy)]
 pub enum Kind {
     // It reads.
     Reading,
@@ -60,27 +60,27 @@ pub enum Kind {
 }
 
 // How wide lines may be, and how many places are lent for where they start.
-#[derive(Drop)]
+#[derive(Clone, Copy)]
 pub struct Lines {
     pub width: u32,
     pub room: usize,
 }
 
 // A call: the style and the table stand beside the word, and mean something where it needs them.
-#[derive(Drop)]
+#[derive(Clone, Copy)]
 pub struct Call {
     pub word: Word,
     pub style: Style,
     pub table: [u16; 16],
 }
 
-#[derive(Drop)]
+#[derive(Clone, Copy)]
 struct IdRead {
     ok: bool,
     id: NodeId,
 }
 
-#[derive(Drop)]
+#[derive(Clone, Copy)]
 struct TableRead {
     ok: bool,
     table: [u16; 16],

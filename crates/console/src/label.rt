@@ -10,14 +10,14 @@ use text::lines;
 use text::lines::LineCount;
 
 // Up to 1,100 bytes: more than a text of lines may have, so that a script can show its refusal.
-#[derive(Drop)]
+#[derive(Clone, Copy)]
 pub struct Label {
     pub bytes: [u8; 1100],
     pub len: usize,
 }
 
 // What a `label` line leaves: its answer, and the label.
-#[derive(Drop)]
+#[derive(Clone, Copy)]
 pub struct Added {
     pub line: Line,
     pub label: Label,

@@ -1,4 +1,6 @@
 // The console: a script on standard input, a line on standard output for each call.
+#![tactic(auto)]
+
 mod calls;
 mod digest;
 mod label;

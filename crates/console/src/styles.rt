@@ -5,37 +5,37 @@ use report::words::{place, word};
 use tree::{Align, Direction, Edges, Size, Style};
 
 // A style; `ok` is false where a word is malformed.
-#[derive(Drop)]
+#[derive(Clone, Copy)]
 pub struct StyleRead {
     pub ok: bool,
     pub style: Style,
 }
 
-#[derive(Drop)]
+#[derive(Clone, Copy)]
 struct DirectionRead {
     ok: bool,
     direction: Direction,
 }
 
-#[derive(Drop)]
+#[derive(Clone, Copy)]
 struct SizeRead {
     ok: bool,
     size: Size,
 }
 
-#[derive(Drop)]
+#[derive(Clone, Copy)]
 struct AlignRead {
     ok: bool,
     align: Align,
 }
 
-#[derive(Drop)]
+#[derive(Clone, Copy)]
 struct EdgesRead {
     ok: bool,
     edges: Edges,
 }
 
-#[derive(Drop)]
+#[derive(Clone, Copy)]
 struct BackgroundRead {
     ok: bool,
     bytes: [u8; 4],

@@ -5,7 +5,7 @@ use report::line::Line;
 use tree::StatePatch;
 
 // Up to 65 patches: one more than a pool may hold, so that a script can show its refusal. The last one's contents are never used.
-#[derive(Drop)]
+#[derive(Clone, Copy)]
 pub struct Waiting {
     pub patches: [StatePatch; 64],
     pub count: u32,

@@ -1,11 +1,13 @@
 // Damage, for the program `broken`: single numbers of a tree set to another value; and whether two trees are the same in every place.
+#![tactic(auto)]
+
 pub mod same;
 
 use field::{Field, MaybeId, NodeId};
 use tree::{Slot, StateSlot, Ui};
 
 // Which number of a slot is set.
-#[derive(Drop)]
+#[derive(Clone, Copy)]
 pub enum Link {
     Generation,
     Live,
@@ -17,7 +19,7 @@ pub enum Link {
 }
 
 // Which number of a state slot; `Table` is its last entry.
-#[derive(Drop)]
+#[derive(Clone, Copy)]
 pub enum StatePart {
     Applied,
     Table,
@@ -25,7 +27,7 @@ pub enum StatePart {
 }
 
 // Which number of a field; `Owner` is a node of slot 2, by its generation, `First` and `Second` are bytes of the text.
-#[derive(Drop)]
+#[derive(Clone, Copy)]
 pub enum Mark {
     Owner,
     Length,
@@ -35,7 +37,7 @@ pub enum Mark {
 }
 
 // Which number of a tree.
-#[derive(Drop)]
+#[derive(Clone, Copy)]
 pub enum Part {
     Nothing,
     Limit,
@@ -51,7 +53,7 @@ pub enum Part {
 }
 
 // A number of a tree, in the slot, field or place `at`, and its new value.
-#[derive(Drop)]
+#[derive(Clone, Copy)]
 pub struct Edit {
     pub part: Part,
     pub at: u32,
@@ -59,7 +61,7 @@ pub struct Edit {
 }
 
 // At most eight of them, done in order.
-#[derive(Drop)]
+#[derive(Clone, Copy)]
 pub struct Edits {
     pub list: [Edit; 8],
     pub count: u32,

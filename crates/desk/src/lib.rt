@@ -1,4 +1,6 @@
 // The desk: events, outputs, the fingerprint and metres by node.
+#![tactic(auto)]
+
 mod events;
 mod fold;
 mod outputs;
@@ -19,7 +21,7 @@ use tree::answers::{Changed, FieldPlace, Neighbour};
 use tree::{Interaction, Ui, fields, input, rules};
 
 // What an event changes of a tree, before the bits are refreshed.
-#[derive(Drop)]
+#[derive(Clone, Copy)]
 pub(crate) struct Parts {
     pub interaction: Interaction,
     pub fields: [Field; 8],
@@ -28,14 +30,14 @@ pub(crate) struct Parts {
 }
 
 // The oldest output is taken: its node, or none, and the tree without it.
-#[derive(Drop)]
+#[derive(Clone, Copy)]
 pub struct Taken {
     pub answer: Neighbour,
     pub tree: Ui,
 }
 
 // The fold that takes in the interaction.
-#[derive(Drop)]
+#[derive(Clone, Copy)]
 pub enum Fingerprint {
     State(u64),
     Refused(Refusal),

@@ -1,4 +1,6 @@
 // A program over the library: a desk with one field, a draught typed into it, and its centimetres.
+#![tactic(auto)]
+
 use desk::UiEvent;
 use field::NodeId;
 use field::metres::Metres;

@@ -1,4 +1,6 @@
 // The field: 64 bytes of UTF-8, a length, a caret and an owner. Edits move over whole characters.
+#![tactic(auto)]
+
 mod bytes;
 pub mod metres;
 
@@ -12,21 +14,21 @@ use text::refusal::{Refusal, Verdict};
 use text::utf8;
 
 // A node's address: a slot, and the generation that the slot had when the node was made.
-#[derive(Drop)]
+#[derive(Clone, Copy)]
 pub struct NodeId {
     pub index: u32,
     pub generation: u64,
 }
 
 // An id, or none.
-#[derive(Drop)]
+#[derive(Clone, Copy)]
 pub enum MaybeId {
     Absent,
     Present(NodeId),
 }
 
 // What a key asks of a field, but for a character.
-#[derive(Drop)]
+#[derive(Clone, Copy)]
 pub enum EditOp {
     Backspace,
     Delete,
@@ -37,7 +39,7 @@ pub enum EditOp {
 }
 
 // A text of at most 64 bytes. `cursor` is the caret, in bytes from the start.
-#[derive(Drop)]
+#[derive(Clone, Copy)]
 pub struct Field {
     pub owner: MaybeId,
     pub bytes: [u8; 64],
@@ -46,7 +48,7 @@ pub struct Field {
 }
 
 // The answer of an edit asked by a caller, with the field beside it.
-#[derive(Drop)]
+#[derive(Clone, Copy)]
 pub struct Edited {
     pub verdict: Verdict,
     pub field: Field,

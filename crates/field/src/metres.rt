@@ -8,7 +8,7 @@ ghost use Rattle.field.specs.Metres.{is_digit, is_point, is_space, value_of, beh
 use text::refusal::Refusal;
 
 // What a text reads as.
-#[derive(Drop)]
+#[derive(Clone, Copy)]
 pub enum Metres {
     Centimetres(u32),
     Refused(Refusal),

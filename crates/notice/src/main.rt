@@ -1,4 +1,6 @@
 // A program over the text library: a mooring order, broken into lines for a box on the screen, and for one that is too narrow.
+#![tactic(auto)]
+
 use libc::STDOUT_FILENO;
 use text::lines::LineCount;
 use text::{lines, refusal};

@@ -1,5 +1,7 @@
 // What the programs have in common: the words of a line and the numbers in them, lines that are read and written, and parts of a line on
 // standard output.
+#![tactic(auto)]
+
 pub mod line;
 pub mod pipes;
 pub mod words;

@@ -3,7 +3,7 @@ use text::refusal;
 use text::refusal::Refusal;
 
 // Bytes, of which the longest answer has 134, and its newline one.
-#[derive(Drop)]
+#[derive(Clone, Copy)]
 pub struct Line {
     pub bytes: [u8; 160],
     pub len: usize,

@@ -7,7 +7,7 @@ use crate::words;
 use libc::{STDIN_FILENO, STDOUT_FILENO};
 
 // How far the buffers are: the next byte of the input's, how many it has, and how many wait in the output's.
-#[derive(Drop)]
+#[derive(Clone, Copy)]
 pub struct Pipes {
     pub at: usize,
     pub got: usize,
@@ -15,7 +15,7 @@ pub struct Pipes {
 }
 
 // A line of `len` bytes, for which `taken` bytes were read: one more with a newline. None were at the input's end.
-#[derive(Drop)]
+#[derive(Clone, Copy)]
 pub struct Taken {
     pub len: usize,
     pub taken: usize,
@@ -56,7 +56,7 @@ fn refill(chunk: &mut [u8; 4096], out: &mut [u8; 4096], held: usize) -> usize {
 }
 
 // The next byte; `found` is false at the input's end.
-#[derive(Drop)]
+#[derive(Clone, Copy)]
 struct Next {
     found: bool,
     byte: u8,

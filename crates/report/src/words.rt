@@ -5,35 +5,35 @@ use bytes::scan::find;
 use check::same;
 
 // A number; `ok` is false, and the value 0, where the word is none.
-#[derive(Drop)]
+#[derive(Clone, Copy)]
 pub struct NumberRead {
     pub ok: bool,
     pub value: u64,
 }
 
 // A number of 32 bits, likewise.
-#[derive(Drop)]
+#[derive(Clone, Copy)]
 pub struct SmallRead {
     pub ok: bool,
     pub value: u32,
 }
 
 // A signed number of 64 bits, likewise.
-#[derive(Drop)]
+#[derive(Clone, Copy)]
 pub struct RawRead {
     pub ok: bool,
     pub value: i64,
 }
 
 // A signed number of 32 bits, likewise.
-#[derive(Drop)]
+#[derive(Clone, Copy)]
 pub struct PixelsRead {
     pub ok: bool,
     pub value: i32,
 }
 
 // The bytes that a word of hexadecimal digits writes. The longest line holds 509.
-#[derive(Drop)]
+#[derive(Clone, Copy)]
 pub struct HexRead {
     pub ok: bool,
     pub bytes: [u8; 512],

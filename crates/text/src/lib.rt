@@ -1,4 +1,6 @@
 // Text: the width of a text by the baked advances, over UTF-8 written and read as RFC 3629 says.
+#![tactic(auto)]
+
 pub mod lines;
 pub mod refusal;
 pub mod utf8;
@@ -10,7 +12,7 @@ use refusal::Refusal;
 use utf8::Place;
 
 // A width in raw units, or why there is none.
-#[derive(Drop)]
+#[derive(Clone, Copy)]
 pub enum Measured {
     Width(i64),
     Refused(Refusal),

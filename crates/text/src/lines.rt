@@ -10,21 +10,21 @@ use crate::refusal::Refusal;
 use crate::{advance_in, advance_of, advance_table, utf8};
 
 // How many lines a text has, or why it has none.
-#[derive(Drop)]
+#[derive(Clone, Copy)]
 pub enum LineCount {
     Count(u32),
     Refused(Refusal),
 }
 
 // A word or a line: where it ends, and how wide it is in pixels.
-#[derive(Drop)]
+#[derive(Clone, Copy)]
 struct Part {
     end: usize,
     width: u32,
 }
 
 // How many lines there are, and how wide the widest is.
-#[derive(Drop)]
+#[derive(Clone, Copy)]
 struct Tally {
     lines: usize,
     widest: u32,

@@ -6,7 +6,7 @@ ghost use Rattle.text.specs.Reader.{place, lead_of, step_of, is_utf8};
 ghost use Rattle.text.specs.Steps.{is_tail, step_back, step_forward};
 
 // Where a reader stands: how many bytes of a character are to come, the range of the next, and the bits read.
-#[derive(Drop)]
+#[derive(Clone, Copy)]
 pub struct Place {
     pub left: u8,
     pub low: u8,
@@ -95,7 +95,7 @@ pub fn is_utf8(s: &[u8]) -> bool
 }
 
 // Up to four bytes, and how many they are.
-#[derive(Drop)]
+#[derive(Clone, Copy)]
 pub struct Encoded {
     pub bytes: [u8; 4],
     pub len: u8,

@@ -4,54 +4,54 @@ use field::NodeId;
 use text::refusal::{Refusal, Verdict};
 
 // Calls that give the next tree alone.
-#[derive(Drop)]
+#[derive(Clone, Copy)]
 pub struct Changed {
     pub verdict: Verdict,
     pub tree: Ui,
 }
 
 // The id of a new node.
-#[derive(Drop)]
+#[derive(Clone, Copy)]
 pub enum NewId {
     Id(NodeId),
     Refused(Refusal),
 }
 
-#[derive(Drop)]
+#[derive(Clone, Copy)]
 pub struct Inserted {
     pub answer: NewId,
     pub tree: Ui,
 }
 
 // The length of a text.
-#[derive(Drop)]
+#[derive(Clone, Copy)]
 pub enum TextLength {
     Bytes(u8),
     Refused(Refusal),
 }
 
-#[derive(Drop)]
+#[derive(Clone, Copy)]
 pub struct FieldText {
     pub answer: TextLength,
     pub bytes: [u8; 64],
 }
 
 // Where a caret stands.
-#[derive(Drop)]
+#[derive(Clone, Copy)]
 pub enum Caret {
     At(u8),
     Refused(Refusal),
 }
 
 // A node's box.
-#[derive(Drop)]
+#[derive(Clone, Copy)]
 pub enum NodeRect {
     At(Rect),
     Refused(Refusal),
 }
 
 // Whether an id is live.
-#[derive(Drop)]
+#[derive(Clone, Copy)]
 pub enum Liveness {
     Dead,
     Live,
@@ -59,7 +59,7 @@ pub enum Liveness {
 }
 
 // A node, or none: the first child, the next sibling, the oldest output.
-#[derive(Drop)]
+#[derive(Clone, Copy)]
 pub enum Neighbour {
     Nobody,
     Node(NodeId),
@@ -67,7 +67,7 @@ pub enum Neighbour {
 }
 
 // Where a read finds a node's field among the eight.
-#[derive(Drop)]
+#[derive(Clone, Copy)]
 pub enum FieldPlace {
     At(u32),
     Refused(Refusal),

@@ -1,4 +1,6 @@
 // The tree: nodes in numbered slots, their links, styles, tables, boxes and fields, by value.
+#![tactic(auto)]
+
 pub mod answers;
 pub mod input;
 mod nodes;
@@ -33,7 +35,7 @@ use text::refusal::{Refusal, Verdict};
 const NIL: u32 = 4294967295;
 
 // What the tree remembers between events.
-#[derive(Drop)]
+#[derive(Clone, Copy)]
 pub struct Interaction {
     pub pointer: Pointer,
     pub pressed: MaybeId,
@@ -45,13 +47,13 @@ pub struct Interaction {
 }
 
 // The most nodes that a tree holds, its root included.
-#[derive(Drop)]
+#[derive(Clone, Copy)]
 pub struct UiLimits {
     pub nodes: u32,
 }
 
 // The tree. Slots from `limits.nodes` on, and places past a count, hold nothing.
-#[derive(Drop)]
+#[derive(Clone, Copy)]
 pub struct Ui {
     pub slots: [Slot; 128],
     pub layout: [LayoutSlot; 128],

@@ -7,7 +7,7 @@ use text::utf8;
 use text::utf8::Encoded;
 
 // Bytes gathered from characters; what passes 64 is left out.
-#[derive(Drop)]
+#[derive(Clone, Copy)]
 struct Bytes {
     bytes: [u8; 64],
     len: u8,

@@ -4,7 +4,7 @@ use crate::{characters, readings, sums};
 use bytes::scan::find;
 
 // What is run on a line.
-#[derive(Drop)]
+#[derive(Clone, Copy)]
 pub enum Kind {
     Utf8,
     Words,

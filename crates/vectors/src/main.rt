@@ -1,5 +1,7 @@
 // Published vectors, run through the proved code: what comes out is written, a line a vector. tests/vectors/expected.py has the same
 // lines by other means.
+#![tactic(auto)]
+
 mod breaks;
 mod characters;
 mod edits;
