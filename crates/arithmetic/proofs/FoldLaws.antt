@@ -7,12 +7,12 @@ use native.Mathlib.Omega.{arith}
 use lib.ListN.{get_or, length, drop, drop_of_length-le}
 use lib.Seq.{drop-cons}
 use Rattle.arithmetic.specs.declared.fold.StateHash.{StateHash}
-use Rattle.arithmetic.specs.Fold.{fold_bytes, low_bytes, absorbed}
+use Rattle.arithmetic.specs.Fold.{fnv_byte, fold_bytes, low_bytes, absorbed}
 
 folded_in_turn : (h : ℕ) (xs ys : List ℕ) → fold_bytes (fold_bytes h xs) ys ≡ fold_bytes h (xs ++ ys)
 unfolding fold_bytes
 folded_in_turn h [] ys = refl
-folded_in_turn h (x ∷ xs) ys = folded_in_turn _ xs ys
+folded_in_turn h (x ∷ xs) ys = folded_in_turn (fnv_byte h x) xs ys
 
 -- Two runs of bytes, one after the other, are one run.
 pub absorbed_in_turn : (h : StateHash) (xs ys : List ℕ) → absorbed (absorbed h xs) ys ≡ absorbed h (xs ++ ys)

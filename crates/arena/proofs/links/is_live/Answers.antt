@@ -1,0 +1,9 @@
+-- The definition's tests, on the slot that was read. Assumes nothing.
+use Rattle.arithmetic.specs.Tests.{same}
+use Rattle.arena.specs.Slots.{is_live}
+use Rattle.std.proofs.Common.{rules}
+use Rattle.arena.proofs.links.is_live.Goals as goal
+
+pub returns : goal.returns
+unfolding is_live same
+returns c = simp c.slot_at-s.ensures

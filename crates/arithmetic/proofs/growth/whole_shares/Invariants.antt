@@ -1,0 +1,22 @@
+-- `whole_shares` gives the whole shares, their keys and the sum of the shares. The loop's invariant: so it is for the places passed, and the
+-- places to come hold 0. No sum passes the leftover, so all of them fit. Assumes nothing.
+use mathlib.Core.Path.{◌≡◌, refl, sym, ◌∙◌, ap, ap₂, subst}
+use Prim.Native.Nat.{ℕ, ◌+◌, ◌*◌, ◌-◌, ◌/◌, ◌%◌, ◌≤◌, ◌<◌, ◌^◌}
+use native.Mathlib.Nat.{mod-lt}
+use native.Mathlib.Omega.{arith}
+use borrow.Author.Count.{below_none}
+use borrow.Author.Rules.{rules}
+use lib.IntN.{pos}
+use lib.ListN.{get_or, length, length-set}
+use lib.Seq.{get_or-set_other}
+use mir.Syntax.{w64}
+use mir.Facts.{to_z_pos}
+use Rattle.arithmetic.specs.Growth.{sum_to, grow_sum, whole_share, remainder}
+use Rattle.arithmetic.proofs.GrowthShares.{whole_shares_within_leftover}
+use Rattle.arithmetic.proofs.Sums.{sum_of_none, sum_of_one_more, summand_at_most_sum, filled_one_further, repeated_at}
+use Rattle.arithmetic.proofs.growth.whole_shares.Given as goal
+
+abbrev pub invariant-loop-i : goal.invariant-loop-i
+invariant-loop-i l =
+    (l.i ≤ l.n) × (length l.shares ≡ 128) × (length l.keys ≡ 128) × ((k : ℕ) → k < l.i → get_or l.shares k (pos 0) ≡ pos (whole_share l.l l.grows l.n k)) × ((k : ℕ) → l.i ≤ k → get_or l.shares k (pos 0) ≡ pos 0)
+    × ((k : ℕ) → k < l.i → get_or l.keys k 0 ≡ remainder l.l l.grows l.n k + 1) × (l.given ≡ sum_to (whole_share l.l l.grows l.n) l.i)

@@ -1,0 +1,26 @@
+-- The slots passed, from the last on, are measured; the index falls. Along a node's children what is left of the sum gives the whole. Assumes nothing.
+use lib.ListN.{take, drop, get_or}
+use native.Mathlib.Omega.{arith}
+use Prim.Native.Nat.{◌-◌, ◌≤◌}
+use mathlib.Core.List.{List}
+use mathlib.Core.Path.{◌≡◌, refl, ◌∙◌, ap}
+use borrow.Author.Rules.{rules}
+use Rattle.boxes.proofs.Layouts.Passes.{measured_none, measured_more}
+use Rattle.boxes.proofs.Layouts.PassSteps.{goes_on, slot_of, Summing, summing_more, summing_done, measured}
+use Rattle.boxes.specs.declared.LayoutSlot.{LayoutSlot}
+use Rattle.boxes.specs.Styles.{layout_at}
+use Rattle.arena.specs.Slots.{kids_at, at}
+use Rattle.boxes.specs.Layout.{measure_all, measure_at}
+use Rattle.boxes.proofs.layout.measure_all.Given as goal
+
+abbrev pub invariant-loop-child : goal.invariant-loop-child
+invariant-loop-child l = Summing l.slots l.out l.d l.initial.child l.sum l.child l.n
+
+abbrev pub decreases-loop-child : goal.decreases-loop-child
+decreases-loop-child l = 128 - l.n
+
+abbrev pub invariant-loop-j : goal.invariant-loop-j
+invariant-loop-j l = (l.out ≡ measure_all l.slots l.initial.out (drop l.j (take l.count l.ids))) × (l.j ≤ l.count)
+
+abbrev pub decreases-loop-j : goal.decreases-loop-j
+decreases-loop-j l = l.j

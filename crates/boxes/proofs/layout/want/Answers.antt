@@ -1,0 +1,10 @@
+-- Width and height by `wanted`, from the content turned to the node's direction. Assumes nothing.
+use borrow.Author.Rules.{rules}
+use Rattle.boxes.specs.Layout.{want}
+use Rattle.arithmetic.proofs.Signs.{said}
+use Rattle.boxes.proofs.layout.want.Goals as goal
+
+pub returns : goal.returns
+unfolding want
+returns c = λ cs sums. let w = c.wanted in let h = c.wanted-2 in
+    rw (← c.content_extent-c.ensures cs sums, ← c.turned-e.ensures, said w.result w.type-inv w.ensures, said h.result h.type-inv h.ensures) (search rules)

@@ -1,0 +1,15 @@
+-- What is moved so far is a paste, one byte longer each turn. Assumes nothing.
+use mathlib.Core.Path.{◌≡◌, ap, ◌∙◌}
+use Prim.Native.Nat.{ℕ, ◌-◌, ◌≤◌}
+use native.Mathlib.Omega.{arith}
+use borrow.Author.Rules.{rules}
+use lib.Seq.{paste, paste-zero}
+use lib.ListN.{length, drop}
+use Rattle.field.proofs.Moves.{down_turn}
+use Rattle.field.proofs.bytes.closed.Given as goal
+
+abbrev pub invariant-loop-j : goal.invariant-loop-j
+invariant-loop-j l = (l.j ≤ l.end) × (length l.initial.b ≡ 64) × (l.b ≡ paste l.initial.b l.from (drop l.to l.initial.b) l.j)
+
+abbrev pub decreases-loop-j : goal.decreases-loop-j
+decreases-loop-j l = l.end - l.j

@@ -1,0 +1,15 @@
+-- From the end: what is moved so far is a paste, one byte longer each turn. Assumes nothing.
+use mathlib.Core.Path.{◌≡◌, ap, ◌∙◌}
+use Prim.Native.Nat.{ℕ, ◌+◌, ◌-◌, ◌≤◌}
+use native.Mathlib.Omega.{arith}
+use borrow.Author.Rules.{rules}
+use lib.Seq.{paste}
+use lib.ListN.{length, drop}
+use Rattle.field.proofs.Moves.{up_turn, up_none}
+use Rattle.field.proofs.bytes.opened.Given as goal
+
+abbrev pub invariant-loop-i : goal.invariant-loop-i
+invariant-loop-i l = (l.at ≤ l.i) × (l.i ≤ l.len) × (length l.initial.b ≡ 64) × (l.b ≡ paste l.initial.b (l.i + l.n) (drop l.i l.initial.b) (l.len - l.i))
+
+abbrev pub decreases-loop-i : goal.decreases-loop-i
+decreases-loop-i l = l.i

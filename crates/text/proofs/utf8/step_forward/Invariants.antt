@@ -1,0 +1,16 @@
+-- The tails passed and the tails left are all the tails. Assumes nothing.
+use mathlib.Core.Path.{◌≡◌, refl, sym, ◌∙◌}
+use Prim.Native.Nat.{◌+◌, ◌-◌, ◌≤◌, ◌<◌}
+use native.Mathlib.Omega.{arith}
+use borrow.Author.Tests.{not-true, not_false, lt-ltb, le-ltb}
+use borrow.Author.Rules.{rules}
+use lib.ListN.{length, drop}
+use Rattle.text.specs.Steps.{is_tail, front, step_forward}
+use Rattle.text.proofs.Walks.{front_ends, front_goes_on, front_of_none}
+use Rattle.text.proofs.utf8.step_forward.Given as goal
+
+abbrev pub invariant-loop-i : goal.invariant-loop-i
+invariant-loop-i l = (l.i ≤ length l.s) × (l.at < length l.s) × (l.i + front is_tail (drop l.i l.s) ≡ l.at + 1 + front is_tail (drop (l.at + 1) l.s))
+
+abbrev pub decreases-loop-i : goal.decreases-loop-i
+decreases-loop-i l = length l.s - l.i

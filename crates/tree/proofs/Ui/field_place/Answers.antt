@@ -1,0 +1,17 @@
+-- By the precheck of the node and the place of its field. Assumes nothing.
+use mathlib.Core.Path.{sym, ◌∙◌}
+use Rattle.tree.specs.Answers.{fieldPlace}
+use borrow.Author.Rules.{rules}
+use Rattle.tree.proofs.Ui.field_place.Goals as goal
+
+pub returns-in-Refused : goal.returns-in-Refused
+unfolding fieldPlace
+returns-in-Refused c = rw (sym c.precheck.ensures ∙ c.word-1.given.1)
+
+pub returns-in-Nowhere : goal.returns-in-Nowhere
+unfolding fieldPlace
+returns-in-Nowhere c = rw (sym c.precheck.ensures ∙ c.enum_told-1.given.1, sym c.field_place.ensures.0 ∙ c.enum_told-in-Nowhere-1.given.1)
+
+pub returns-in-At : goal.returns-in-At
+unfolding fieldPlace
+returns-in-At c = rw (sym c.precheck.ensures ∙ c.enum_told-1.given.1, sym c.field_place.ensures.0 ∙ c.i-1.given.1)

@@ -1,0 +1,6 @@
+-- By the fresh style's contract. Assumes nothing.
+use borrow.Author.Rules.{rules}
+use Rattle.tree.proofs.start.fresh_patches.Goals as goal
+
+pub returns : goal.returns
+returns c = cc
