@@ -1,6 +1,5 @@
 -- Units given by picking: after i picks of the first largest key, each marked by 0, the units lie at the places of rank below i.
 -- One cond more goes to the place of rank i (proofs/GrowthRanks.antt), and no other rank is i. Assumes nothing.
-use mathlib.Core.Bool.{cond}
 use mathlib.Core.Path.{◌≡◌, refl, sym, ◌∙◌, ap}
 use mathlib.Core.List.{List}
 use Prim.Native.Nat.{ℕ, ◌+◌, ◌≤◌, ◌<◌}

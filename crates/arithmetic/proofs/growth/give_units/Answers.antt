@@ -1,5 +1,5 @@
 use mathlib.Core.Path.{◌≡◌, ◌∙◌, ap}
-use Prim.Native.Nat.{ℕ, ◌-◌, ◌≤◌, ◌<◌}
+use Prim.Native.Nat.{ℕ, ◌<◌}
 use native.Mathlib.Omega.{arith}
 use borrow.Author.Rules.{rules}
 use lib.IntN.{ℤ, pos, ◌+ℤ◌}
@@ -8,7 +8,7 @@ use mir.Syntax.{w64}
 use mir.Val.{SFits, to_z, of_z}
 use mir.Facts.{to_z-of_z}
 use Rattle.arithmetic.specs.Support.Steps.{with_unit}
-use Rattle.arithmetic.proofs.GrowthPicks.{Picked, picked_at_first, pick_is_new, picked_once_more}
+use Rattle.arithmetic.proofs.GrowthPicks.{picked_at_first, pick_is_new, picked_once_more}
 use Rattle.arithmetic.proofs.Sums.{list_is_table}
 use Rattle.arithmetic.proofs.growth.give_units.Goals as goal
 
@@ -19,20 +19,20 @@ pub first_largest-best-requires : goal.first_largest-best-requires
 first_largest-best-requires c =
     (omega (arith, c.requires.enough), c.requires.n_fits)
 
-in-range : (c : goal.After-first_largest-best) → c.first_largest-best.result < 128
-in-range c = omega (arith, c.first_largest-best.ensures.inside, c.requires.n_fits)
+in_range : (c : goal.After-first_largest-best) → c.first_largest-best.result < 128
+in_range c = omega (arith, c.first_largest-best.ensures.inside, c.requires.n_fits)
 
 pub offset_bounds-left-best : goal.offset_bounds-left-best
-offset_bounds-left-best c = omega (arith, in-range c)
+offset_bounds-left-best c = omega (arith, in_range c)
 
 pub bounds-left-best : goal.bounds-left-best
-bounds-left-best c = in-range c
+bounds-left-best c = in_range c
 
 pub offset_bounds-out-best : goal.offset_bounds-out-best
-offset_bounds-out-best c = omega (arith, in-range c)
+offset_bounds-out-best c = omega (arith, in_range c)
 
 pub bounds-out-best : goal.bounds-out-best
-bounds-out-best c = in-range c
+bounds-out-best c = in_range c
 
 module _ (c : goal.After-out-1) where
   abbrev b : ℕ
@@ -41,24 +41,24 @@ module _ (c : goal.After-out-1) where
   few : c.loop-i.i < c.args.n
   few = omega (arith, c.requires.enough)
 
-  new-place : get_or c.loop-i.out b (pos 0) ≡ get_or c.args.shares b (pos 0)
-  new-place =
+  new_place : get_or c.loop-i.out b (pos 0) ≡ get_or c.args.shares b (pos 0)
+  new_place =
       pick_is_new c.args.n c.args.shares c.args.keys c.loop-i.out c.loop-i.left c.loop-i.i b c.loop-i.invariant.1 c.requires.n_fits few c.requires.unmarked c.first_largest-best.ensures
 
   out_reads : to_z w64 (of_z w64 (get_or c.loop-i.out b (pos 0))) ≡ get_or c.loop-i.out b (pos 0)
   out_reads = to_z-of_z {w = w64} (search rules)
 
   sum_fits : SFits w64 (get_or c.loop-i.out b (pos 0) +ℤ pos 1)
-  sum_fits = rw new-place (c.requires.room b c.first_largest-best.ensures.inside (omega arith))
+  sum_fits = rw new_place (c.requires.room b c.first_largest-best.ensures.inside (omega arith))
 
   stored : to_z w64 (of_z w64 (to_z w64 (of_z w64 (get_or c.loop-i.out b (pos 0))) +ℤ pos 1)) ≡ get_or c.args.shares b (pos 0) +ℤ pos 1
-  stored = simp out_reads (to_z-of_z sum_fits) ∙ ap (λ (x : ℤ). x +ℤ pos 1) new-place
+  stored = simp out_reads (to_z-of_z sum_fits) ∙ ap (λ (x : ℤ). x +ℤ pos 1) new_place
 
 pub overflow_add-out : goal.overflow_add-out
 overflow_add-out c = simp (out_reads c) (sum_fits c)
 
 pub bounds-out-best-in-loop-i : goal.bounds-out-best-in-loop-i
-bounds-out-best-in-loop-i c = in-range c.before
+bounds-out-best-in-loop-i c = in_range c.before
 
 pub loop-i-preserved : goal.loop-i-preserved
 loop-i-preserved c =

@@ -1,13 +1,8 @@
 -- `grow_sum` sums the grows. The loop's invariant: the sum of those passed, which is at most that many times 2^32 - 1. Assumes nothing.
-use mathlib.Core.Path.{◌≡◌, sym, ◌∙◌, ap}
-use Prim.Native.Nat.{ℕ, ◌+◌, ◌*◌, ◌-◌, ◌≤◌}
-use native.Mathlib.Omega.{arith}
-use borrow.Author.Rules.{rules}
-use mir.Syntax.{w32}
-use mir.Val.{Fits}
+use mathlib.Core.Path.{◌≡◌}
+use Prim.Native.Nat.{ℕ, ◌*◌, ◌≤◌}
 use lib.ListN.{get_or}
-use Rattle.arithmetic.specs.Growth.{sum_to, grow_sum}
-use Rattle.arithmetic.proofs.Sums.{sum_of_none, sum_of_one_more}
+use Rattle.arithmetic.specs.Growth.{sum_to}
 use Rattle.arithmetic.proofs.growth.grow_sum.Given as goal
 
 abbrev pub invariant-loop-i : goal.invariant-loop-i

@@ -1,9 +1,8 @@
 use mathlib.Core.Path.{◌≡◌, refl, sym, ◌∙◌, ap, ap₂, subst}
-use Prim.Native.Nat.{ℕ, ◌+◌, ◌*◌, ◌-◌, ◌/◌, ◌%◌, ◌≤◌, ◌<◌, ◌^◌}
+use Prim.Native.Nat.{ℕ, ◌+◌, ◌*◌, ◌/◌, ◌%◌, ◌≤◌, ◌<◌, ◌^◌}
 use native.Mathlib.Nat.{mod-lt}
 use native.Mathlib.Omega.{arith}
 use borrow.Author.Count.{below_none}
-use borrow.Author.Rules.{rules}
 use lib.IntN.{pos}
 use lib.ListN.{get_or, length, length-set}
 use lib.Seq.{get_or-set_other}
@@ -31,11 +30,11 @@ module _ (c : goal.After-struct_known-1) where
   abbrev i : ℕ
   i = c.loop-i.i
 
-  in-shares : i < length c.loop-i.shares
-  in-shares = omega arith
+  in_shares : i < length c.loop-i.shares
+  in_shares = omega arith
 
-  in-keys : i < length c.loop-i.keys
-  in-keys = omega arith
+  in_keys : i < length c.loop-i.keys
+  in_keys = omega arith
 
   quotient_is : c.mul_div-s.result.quotient ≡ whole_share c.args.l c.args.grows c.args.n i
   unfolding whole_share
@@ -45,8 +44,8 @@ module _ (c : goal.After-struct_known-1) where
   unfolding remainder
   remainder_is = c.mul_div-s.ensures.1 ∙ ap (λ (x : ℕ). c.args.l * get_or c.args.grows i 0 % x) c.requires.2
 
-  remainder-fits : c.mul_div-s.result.remainder < 2 ^ 39
-  remainder-fits =
+  remainder_fits : c.mul_div-s.result.remainder < 2 ^ 39
+  remainder_fits =
       omega (arith, c.requires.4, c.mul_div-s.ensures.1, mod-lt (c.args.l * get_or c.args.grows i 0) c.requires.3)
 
   sum_is : c.loop-i.given + c.mul_div-s.result.quotient ≡ sum_to (whole_share c.args.l c.args.grows c.args.n) (i + 1)
@@ -60,7 +59,7 @@ pub overflow_cast-shares : goal.overflow_cast-shares
 overflow_cast-shares c = omega (arith, sum_is c, sum_fits c)
 
 pub overflow_add-keys : goal.overflow_add-keys
-overflow_add-keys c = omega (arith, remainder-fits c.before)
+overflow_add-keys c = omega (arith, remainder_fits c.before)
 
 pub overflow_add-given : goal.overflow_add-given
 overflow_add-given c = omega (arith, sum_is c.before.before, sum_fits c.before.before)
@@ -72,9 +71,9 @@ loop-i-preserved c =
       omega arith,
       simp length-set v.1,
       simp length-set v.2,
-      filled_one_further (λ (k : ℕ). pos (whole_share s.l s.t2 s.n k)) c.loop-i.shares _ _ (pos 0) (in-shares c.before.before) (to_z_pos w64 (omega (arith, sum_is c.before.before, sum_fits c.before.before)) ∙ ap pos (quotient_is c.before.before)) v.3,
+      filled_one_further (λ (k : ℕ). pos (whole_share s.l s.grows s.n k)) c.loop-i.shares _ _ (pos 0) (in_shares c.before.before) (to_z_pos w64 (omega (arith, sum_is c.before.before, sum_fits c.before.before)) ∙ ap pos (quotient_is c.before.before)) v.3,
       (λ k h. get_or-set_other c.loop-i.shares _ k _ (pos 0) (λ e. omega arith) ∙ v.4 k (omega arith)),
-      filled_one_further (λ (k : ℕ). remainder s.l s.t2 s.n k + 1) c.loop-i.keys _ _ 0 (in-keys c.before.before) (ap (λ (x : ℕ). x + 1) (remainder_is c.before.before)) v.5,
+      filled_one_further (λ (k : ℕ). remainder s.l s.grows s.n k + 1) c.loop-i.keys _ _ 0 (in_keys c.before.before) (ap (λ (x : ℕ). x + 1) (remainder_is c.before.before)) v.5,
       sum_is c.before.before,
     )
 
@@ -88,5 +87,5 @@ returns c =
       none_past = rw e at v.4;
       keys_are = rw e at v.5;
       given_is = rw e at v.6;
-      given_fits = omega (arith, v.6, whole_shares_within_leftover s.l s.t2 s.n c.loop-i.i v.0 (subst (λ (x : ℕ). 0 < x) c.requires.2 c.requires.3));
+      given_fits = omega (arith, v.6, whole_shares_within_leftover s.l s.grows s.n c.loop-i.i v.0 (subst (λ (x : ℕ). 0 < x) c.requires.2 c.requires.3));
     }

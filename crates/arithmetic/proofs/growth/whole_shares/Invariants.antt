@@ -1,19 +1,10 @@
 -- `whole_shares` gives the whole shares, their keys and the sum of the shares. The loop's invariant: so it is for the places passed, and the
 -- places to come hold 0. No sum passes the leftover, so all of them fit. Assumes nothing.
-use mathlib.Core.Path.{◌≡◌, refl, sym, ◌∙◌, ap, ap₂, subst}
-use Prim.Native.Nat.{ℕ, ◌+◌, ◌*◌, ◌-◌, ◌/◌, ◌%◌, ◌≤◌, ◌<◌, ◌^◌}
-use native.Mathlib.Nat.{mod-lt}
-use native.Mathlib.Omega.{arith}
-use borrow.Author.Count.{below_none}
-use borrow.Author.Rules.{rules}
+use mathlib.Core.Path.{◌≡◌}
+use Prim.Native.Nat.{ℕ, ◌+◌, ◌≤◌, ◌<◌}
 use lib.IntN.{pos}
-use lib.ListN.{get_or, length, length-set}
-use lib.Seq.{get_or-set_other}
-use mir.Syntax.{w64}
-use mir.Facts.{to_z_pos}
-use Rattle.arithmetic.specs.Growth.{sum_to, grow_sum, whole_share, remainder}
-use Rattle.arithmetic.proofs.GrowthShares.{whole_shares_within_leftover}
-use Rattle.arithmetic.proofs.Sums.{sum_of_none, sum_of_one_more, summand_at_most_sum, filled_one_further, repeated_at}
+use lib.ListN.{get_or, length}
+use Rattle.arithmetic.specs.Growth.{sum_to, whole_share, remainder}
 use Rattle.arithmetic.proofs.growth.whole_shares.Given as goal
 
 abbrev pub invariant-loop-i : goal.invariant-loop-i

@@ -13,14 +13,14 @@ use Rattle.arithmetic.specs.Scalar.{unsigned_of}
 use Rattle.arithmetic.proofs.Signed.{above_zero, below_zero, above_or_below_is_zero, at_most_reads, not_at_most_reads, fitting_32_reads, sum_reads, reading_fits, none_below_is_non_neg, size_reads}
 use Rattle.arithmetic.proofs.scalar.cast_unsigned.Goals as goal
 
-not-negative-casts : (x : ℤ) → le_z (pos 0) x ≡ true → SFits w32 x → T (non_neg x) × Fits w32 (nat_abs x)
-not-negative-casts (pos n) h f = (tt, omega arith)
-not-negative-casts (negsuc n) h f = absurd (omega (arith, at_most_reads (pos 0) (negsuc n) h))
+not_negative_casts : (x : ℤ) → le_z (pos 0) x ≡ true → SFits w32 x → T (non_neg x) × Fits w32 (nat_abs x)
+not_negative_casts (pos n) h f = (tt, omega arith)
+not_negative_casts (negsuc n) h f = absurd (omega (arith, at_most_reads (pos 0) (negsuc n) h))
 
-not-negative-is-itself : (x : ℤ) → le_z (pos 0) x ≡ true → nat_abs x ≡ unsigned_of x
+not_negative_is_itself : (x : ℤ) → le_z (pos 0) x ≡ true → nat_abs x ≡ unsigned_of x
 unfolding unsigned_of
-not-negative-is-itself (pos n) h = omega arith
-not-negative-is-itself (negsuc n) h = absurd (omega (arith, at_most_reads (pos 0) (negsuc n) h))
+not_negative_is_itself (pos n) h = omega arith
+not_negative_is_itself (negsuc n) h = absurd (omega (arith, at_most_reads (pos 0) (negsuc n) h))
 
 module _ (x : ℤ) (h : le_z (pos 0) x ≡ false) (f : SFits w32 x) where
   abbrev raised : ℤ
@@ -32,44 +32,44 @@ module _ (x : ℤ) (h : le_z (pos 0) x ≡ false) (f : SFits w32 x) where
   sum_fits : SFits w64 raised
   sum_fits = reading_fits raised (omega (arith, sum_balance))
 
-  sum-casts : T (non_neg raised) × Fits w32 (nat_abs raised)
-  sum-casts = (none_below_is_non_neg raised sum_balance.1, omega (arith, sum_balance, size_reads raised))
+  sum_casts : T (non_neg raised) × Fits w32 (nat_abs raised)
+  sum_casts = (none_below_is_non_neg raised sum_balance.1, omega (arith, sum_balance, size_reads raised))
 
-  sum-is-bits : nat_abs raised ≡ unsigned_of x
+  sum_is_bits : nat_abs raised ≡ unsigned_of x
   unfolding unsigned_of
-  sum-is-bits = size_reads raised ∙ by x sum_balance
+  sum_is_bits = size_reads raised ∙ by x sum_balance
     where
       by : (x : ℤ) → (above_zero raised + below_zero x ≡ 4294967296) × (below_zero raised ≡ 0) × (0 < below_zero x) → above_zero raised + below_zero raised ≡ unsigned_of x
       by (pos n) r = absurd (omega arith)
       by (negsuc n) r = omega arith
 
 module _ (c : goal.Else-x-ge0) where
-  x-is-negative : le_z (pos 0) c.args.x ≡ false
-  x-is-negative = simp (to_z-of_z c.ranges.x) at c.if-x-ge0.false
+  x_is_negative : le_z (pos 0) c.args.x ≡ false
+  x_is_negative = simp (to_z-of_z c.ranges.x) at c.if-x-ge0.false
 
-  x-reads : to_z w32 (of_z w32 c.args.x) ≡ c.args.x
-  x-reads = to_z-of_z c.ranges.x
+  x_reads : to_z w32 (of_z w32 c.args.x) ≡ c.args.x
+  x_reads = to_z-of_z c.ranges.x
 
-  wide-x-reads : to_z w64 (of_z w64 c.args.x) ≡ c.args.x
-  wide-x-reads = to_z-of_z {w = w64} (sfits_widen tt c.ranges.x)
+  wide_x_reads : to_z w64 (of_z w64 c.args.x) ≡ c.args.x
+  wide_x_reads = to_z-of_z {w = w64} (sfits_widen tt c.ranges.x)
 
-  sum-reads-back : to_z w64 (of_z w64 (raised c.args.x x-is-negative c.ranges.x)) ≡ raised c.args.x x-is-negative c.ranges.x
-  sum-reads-back = to_z-of_z (sum_fits c.args.x x-is-negative c.ranges.x)
+  sum_reads_back : to_z w64 (of_z w64 (raised c.args.x x_is_negative c.ranges.x)) ≡ raised c.args.x x_is_negative c.ranges.x
+  sum_reads_back = to_z-of_z (sum_fits c.args.x x_is_negative c.ranges.x)
 
 pub overflow_cast-result : goal.overflow_cast-result
-overflow_cast-result c = simp (to_z-of_z c.ranges.x) (not-negative-casts c.args.x (simp (to_z-of_z c.ranges.x) at c.if-x-ge0.true) c.ranges.x)
+overflow_cast-result c = simp (to_z-of_z c.ranges.x) (not_negative_casts c.args.x (simp (to_z-of_z c.ranges.x) at c.if-x-ge0.true) c.ranges.x)
 
 pub overflow_cast-result-else-x-ge0 : goal.overflow_cast-result-else-x-ge0
-overflow_cast-result-else-x-ge0 c = simp (x-reads c) (sfits_widen tt c.ranges.x)
+overflow_cast-result-else-x-ge0 c = simp (x_reads c) (sfits_widen tt c.ranges.x)
 
 pub overflow_add-result : goal.overflow_add-result
-overflow_add-result c = simp (x-reads c, wide-x-reads c) (sum_fits c.args.x (x-is-negative c) c.ranges.x)
+overflow_add-result c = simp (x_reads c, wide_x_reads c) (sum_fits c.args.x (x_is_negative c) c.ranges.x)
 
 pub overflow_cast-result-else-x-ge0-2 : goal.overflow_cast-result-else-x-ge0-2
-overflow_cast-result-else-x-ge0-2 c = simp (x-reads c, wide-x-reads c, sum-reads-back c) (sum-casts c.args.x (x-is-negative c) c.ranges.x)
+overflow_cast-result-else-x-ge0-2 c = simp (x_reads c, wide_x_reads c, sum_reads_back c) (sum_casts c.args.x (x_is_negative c) c.ranges.x)
 
 pub returns-then-x-ge0 : goal.returns-then-x-ge0
-returns-then-x-ge0 c = simp (to_z-of_z c.ranges.x) (not-negative-is-itself c.args.x (simp (to_z-of_z c.ranges.x) at c.if-x-ge0.true))
+returns-then-x-ge0 c = simp (to_z-of_z c.ranges.x) (not_negative_is_itself c.args.x (simp (to_z-of_z c.ranges.x) at c.if-x-ge0.true))
 
 pub returns-else-x-ge0 : goal.returns-else-x-ge0
-returns-else-x-ge0 c = simp (x-reads c, wide-x-reads c, sum-reads-back c) (sum-is-bits c.args.x (x-is-negative c) c.ranges.x)
+returns-else-x-ge0 c = simp (x_reads c, wide_x_reads c, sum_reads_back c) (sum_is_bits c.args.x (x_is_negative c) c.ranges.x)

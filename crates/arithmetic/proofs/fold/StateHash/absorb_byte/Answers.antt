@@ -1,7 +1,6 @@
 -- `absorb_byte` folds its byte into the state, which is a run of one byte. Assumes nothing.
 use mathlib.Core.Path.{ap}
 use Prim.Native.Nat.{ℕ}
-use borrow.Author.Rules.{rules}
 use Rattle.arithmetic.specs.Fold.{fold_bytes, absorbed}
 use Rattle.arithmetic.proofs.fold.StateHash.absorb_byte.Goals as goal
 

@@ -1,8 +1,5 @@
-use mathlib.Core.Path.{◌≡◌, refl, sym, ◌∙◌}
-use Prim.Native.Nat.{◌-◌, ◌≤◌}
+use mathlib.Core.Path.{refl, sym, ◌∙◌}
 use borrow.Author.Rules.{rules}
-use lib.ListN.{length, drop}
-use Rattle.arithmetic.specs.Fold.{absorbed}
 use Rattle.arithmetic.proofs.FoldLaws.{absorbed_from, absorbed_past}
 use Rattle.arithmetic.proofs.fold.StateHash.absorb_bytes.Goals as goal
 

@@ -1,10 +1,8 @@
 -- `absorb_bytes` absorbs the slice. The loop's invariant: to absorb what is left from `i` on gives the whole. Assumes nothing.
-use mathlib.Core.Path.{◌≡◌, refl, sym, ◌∙◌}
-use Prim.Native.Nat.{◌-◌, ◌≤◌}
-use borrow.Author.Rules.{rules}
+use mathlib.Core.Path.{◌≡◌}
+use Prim.Native.Nat.{◌≤◌}
 use lib.ListN.{length, drop}
 use Rattle.arithmetic.specs.Fold.{absorbed}
-use Rattle.arithmetic.proofs.FoldLaws.{absorbed_from, absorbed_past}
 use Rattle.arithmetic.proofs.fold.StateHash.absorb_bytes.Given as goal
 
 abbrev pub invariant-loop-i : goal.invariant-loop-i
