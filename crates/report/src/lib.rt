@@ -6,30 +6,30 @@ pub mod line;
 pub mod pipes;
 pub mod words;
 
-use libc::STDOUT_FILENO;
+use std::io;
 
-pub fn put(s: &[u8]) {
-    io::write_all(STDOUT_FILENO, s);
+pub fn put(rt: &impl Print, s: &[u8]) -> io::Result<()> {
+    rt.write_all(s)
 }
 
-pub fn put_number(x: u64) {
-    io::print_decimal(STDOUT_FILENO, x);
+pub fn put_number(rt: &impl Print, x: u64) -> io::Result<()> {
+    rt.print(x)
 }
 
 // In base sixteen, with zeros in front up to a width.
-pub fn put_hex(x: u64, width: usize) {
-    io::print_hex(STDOUT_FILENO, x, width);
+pub fn put_hex(rt: &impl Print, x: u64, width: usize) -> io::Result<()> {
+    print!(rt; "{x:0width$x}")
 }
 
-pub fn put_labelled(label: &[u8], x: u64) {
-    put(label);
-    put_number(x);
+pub fn put_labelled(rt: &impl Print, label: &[u8], x: u64) -> io::Result<()> {
+    put(rt, label)?;
+    put_number(rt, x)
 }
 
 // A number with a sign.
-pub fn put_raw(x: i64) {
+pub fn put_raw(rt: &impl Print, x: i64) -> io::Result<()> {
     if x < 0 {
-        put(b"-");
+        put(rt, b"-")?;
     }
-    put_number(line::magnitude(x));
+    put_number(rt, line::magnitude(x))
 }

@@ -11,23 +11,12 @@ pub struct Line {
 
 // The 64 bits of a signed number.
 pub fn cast_unsigned(x: i64) -> u64 {
-    if 0 <= x {
-        x as u64
-    } else {
-        18446744073709551615 - (-1 - x) as u64
-    }
+    x.cast_unsigned()
 }
 
 // How far a number is from 0.
 pub fn magnitude(x: i64) -> u64 {
-    let bits = cast_unsigned(x);
-    if 0 <= x {
-        return bits;
-    }
-    if bits == 0 {
-        return 0;
-    }
-    18446744073709551615 - (bits - 1)
+    x.unsigned_abs()
 }
 
 fn wide(b: u8) -> u64 {

@@ -1,10 +1,11 @@
 // Standard input by lines, and standard output through a buffer. What waits in the buffer is written before more is read, so that a
-// person sees an answer before the next line.
-ghost use Rattle.std.specs.Prelude.{◌≤◌};
+// person sees an answer before the next line. A read or a write that fails ends the run.
+ghost use Rattle.std.specs.Prelude.{◌≤◌, IfOk};
 
 use crate::line::Line;
 use crate::words;
-use libc::{STDIN_FILENO, STDOUT_FILENO};
+use std::io;
+use std::io::Read;
 
 // How far the buffers are: the next byte of the input's, how many it has, and how many wait in the output's.
 #[derive(Clone, Copy)]
@@ -32,27 +33,22 @@ impl Pipes {
     }
 }
 
-// Writes the first n bytes of s, of which there are at most 4,096.
-fn write_front(s: &mut [u8], n: usize) {
-    let k = io::count(words::at_most(n, 4096) as isize, s);
-    io::write_all(STDOUT_FILENO, &s[..k]);
-}
-
-// Reads what there is, at most as much as s holds; nothing at the input's end.
-fn read_some(s: &mut [u8]) -> usize {
-    let got = libc::read(STDIN_FILENO, s);
-    io::count(got, s)
-}
-
-// Writes what waits.
-pub fn flush(out: &mut [u8; 4096], held: usize) {
-    write_front(out, held);
+// Writes what waits: the first bytes of the buffer.
+pub fn flush(rt: &impl Print, out: &[u8; 4096], held: usize) -> io::Result<()> {
+    let n = words::at_most(held, 4096);
+    rt.write_all(&out[..n])
 }
 
 // The next bytes of the input, after what waits is written; none at its end.
-fn refill(chunk: &mut [u8; 4096], out: &mut [u8; 4096], held: usize) -> usize {
-    flush(out, held);
-    read_some(chunk)
+fn refill(
+    rt: &impl Print,
+    input: &mut impl Read,
+    chunk: &mut [u8; 4096],
+    out: &[u8; 4096],
+    held: usize,
+) -> io::Result<usize> {
+    flush(rt, out, held)?;
+    input.read(chunk)
 }
 
 // The next byte; `found` is false at the input's end.
@@ -63,11 +59,17 @@ struct Next {
     pipes: Pipes,
 }
 
-fn next_byte(chunk: &mut [u8; 4096], out: &mut [u8; 4096], p: Pipes) -> Next {
+fn next_byte(
+    rt: &impl Print,
+    input: &mut impl Read,
+    chunk: &mut [u8; 4096],
+    out: &[u8; 4096],
+    p: Pipes,
+) -> io::Result<Next> {
     let at = p.at;
     let end = words::at_most(p.got, 4096);
     if at < end {
-        return Next {
+        return Ok(Next {
             found: true,
             byte: chunk[at],
             pipes: Pipes {
@@ -75,10 +77,10 @@ fn next_byte(chunk: &mut [u8; 4096], out: &mut [u8; 4096], p: Pipes) -> Next {
                 got: end,
                 held: p.held,
             },
-        };
+        });
     }
-    let got = refill(chunk, out, p.held);
-    Next {
+    let got = refill(rt, input, chunk, out, p.held)?;
+    Ok(Next {
         found: 0 < got,
         byte: chunk[0],
         pipes: Pipes {
@@ -86,41 +88,45 @@ fn next_byte(chunk: &mut [u8; 4096], out: &mut [u8; 4096], p: Pipes) -> Next {
             got: got,
             held: 0,
         },
-    }
+    })
 }
 
 // The next line, put at the start of `line`. It stops at 1,025 bytes, one more than a line may have.
 pub fn next_line(
+    rt: &impl Print,
+    input: &mut impl Read,
     line: &mut [u8; 1025],
     chunk: &mut [u8; 4096],
-    out: &mut [u8; 4096],
+    out: &[u8; 4096],
     start: Pipes,
-) -> Taken
-    ensures { (result.len ≤ 1025) × (result.taken ≤ 1026) }
+) -> io::Result<Taken>
+    ensures { IfOk result (λ r. (r.len ≤ 1025) × (r.taken ≤ 1026)) }
 {
     let mut p = start;
-    let mut n: usize = 0;
-    while n < 1025 {
-        let next = next_byte(chunk, out, p);
+    for n in 0..1025 {
+        let next = next_byte(rt, input, chunk, out, p)?;
         p = next.pipes;
         if !next.found {
-            break;
+            return Ok(Taken {
+                len: n,
+                taken: n,
+                pipes: p,
+            });
         }
         if next.byte == 10 {
-            return Taken {
+            return Ok(Taken {
                 len: n,
                 taken: n + 1,
                 pipes: p,
-            };
+            });
         }
         line[n] = next.byte;
-        n += 1;
     }
-    Taken {
-        len: n,
-        taken: n,
+    Ok(Taken {
+        len: 1025,
+        taken: 1025,
         pipes: p,
-    }
+    })
 }
 
 // The line's bytes, behind what waits.
@@ -136,23 +142,20 @@ fn put_at(out: &mut [u8; 4096], held: usize, line: Line) -> usize
 }
 
 // The same, after what waits is written where there is no room. An answer longer than a `Line` is put by parts.
-pub fn put_part(out: &mut [u8; 4096], p: Pipes, line: Line) -> Pipes {
-    if 3900 < p.held {
-        flush(out, p.held);
-        return Pipes {
-            at: p.at,
-            got: p.got,
-            held: put_at(out, 0, line),
-        };
+pub fn put_part(rt: &impl Print, out: &mut [u8; 4096], p: Pipes, line: Line) -> io::Result<Pipes> {
+    let mut held = p.held;
+    if 3900 < held {
+        flush(rt, out, held)?;
+        held = 0;
     }
-    Pipes {
+    Ok(Pipes {
         at: p.at,
         got: p.got,
-        held: put_at(out, p.held, line),
-    }
+        held: put_at(out, held, line),
+    })
 }
 
 // The whole of a line, or its last part, and the newline.
-pub fn put(out: &mut [u8; 4096], p: Pipes, line: Line) -> Pipes {
-    put_part(out, p, line.ended())
+pub fn put(rt: &impl Print, out: &mut [u8; 4096], p: Pipes, line: Line) -> io::Result<Pipes> {
+    put_part(rt, out, p, line.ended())
 }

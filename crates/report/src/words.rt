@@ -1,8 +1,5 @@
 // The words of a line, and what they write. A word that is malformed or out of its range reads as no number.
-ghost use Rattle.std.specs.Prelude.{◌≤◌, ◌<◌, length};
-
-use bytes::scan::find;
-use check::same;
+ghost use Rattle.std.specs.Prelude.{◌≡◌, ◌≤◌, ◌<◌, ◌↔◌, length, IsTrue};
 
 // A number; `ok` is false, and the value 0, where the word is none.
 #[derive(Clone, Copy)]
@@ -40,15 +37,30 @@ pub struct HexRead {
     pub len: usize,
 }
 
-// How many words a line has: one more than spaces.
-pub fn count(s: &[u8]) -> usize {
-    let mut n = 1;
-    for i in 0..s.len() {
-        if s[i] == 32 {
-            n += 1;
+// Whether two texts are the same, byte for byte.
+pub fn same(a: &[u8], b: &[u8]) -> bool
+    ensures { IsTrue result ↔ (a.now ≡ b.now) }
+{
+    a == b
+}
+
+// The first place from `at` on where the mark stands; the text's end where there is none.
+pub fn end_of(s: &[u8], mark: u8, at: usize) -> usize
+    requires { at ≤ length s.now }
+    ensures from { at ≤ result }
+    ensures within { result ≤ length s.now }
+{
+    for i in at..s.len() {
+        if s[i] == mark {
+            return i;
         }
     }
-    n
+    s.len()
+}
+
+// How many words a line has: one more than spaces.
+pub fn count(s: &[u8]) -> usize {
+    1 + s.iter().filter(|b| **b == 32).count()
 }
 
 // Where part k starts of a text whose parts a mark separates; the text's end where it has none.
@@ -56,23 +68,21 @@ fn start_of(s: &[u8], mark: u8, k: usize) -> usize
     ensures { result ≤ length s.now }
 {
     let mut left = k;
-    let mut i = 0;
-    while i < s.len() {
+    for i in 0..s.len() {
         if left == 0 {
             return i;
         }
         if s[i] == mark {
             left -= 1;
         }
-        i += 1;
     }
-    i
+    s.len()
 }
 
 // Part k, counted from 0; empty where the text has none.
 pub fn part(s: &[u8], mark: u8, k: usize) -> &[u8] {
     let at = start_of(s, mark, k);
-    let end = find(s, at, s.len(), mark);
+    let end = end_of(s, mark, at);
     &s[at..end]
 }
 
@@ -92,7 +102,7 @@ pub fn place(w: &[u8], names: &[u8]) -> usize {
     let mut k = 0;
     let mut at = 0;
     while at < names.len() {
-        let end = find(names, at, names.len(), 32);
+        let end = end_of(names, 32, at);
         if same(w, &names[at..end]) {
             return k;
         }
@@ -197,30 +207,12 @@ fn signed(s: &[u8], most: u64) -> NumberRead
     number(s, most)
 }
 
-// The number that 64 bits are in two's complement.
-fn cast_signed(bits: u64) -> i64 {
-    if bits < 9223372036854775808 {
-        bits as i64
-    } else {
-        -1 - (18446744073709551615 - bits) as i64
-    }
-}
-
-// The number that 32 bits are.
-fn cast_signed32(bits: u32) -> i32 {
-    if bits < 2147483648 {
-        bits as i32
-    } else {
-        -1 - (4294967295 - bits) as i32
-    }
-}
-
 // RAW: any number of 64 bits.
 pub fn raw(s: &[u8]) -> RawRead {
     let n = signed(s, 9223372036854775807);
     RawRead {
         ok: n.ok,
-        value: cast_signed(n.value),
+        value: n.value.cast_signed(),
     }
 }
 
@@ -229,7 +221,7 @@ pub fn pixels(s: &[u8]) -> PixelsRead {
     let n = signed(s, 2147483647);
     PixelsRead {
         ok: n.ok,
-        value: cast_signed32((n.value % 4294967296) as u32),
+        value: ((n.value % 4294967296) as u32).cast_signed(),
     }
 }
 

@@ -4,36 +4,38 @@ ghost use Rattle.std.specs.Prelude.{◌<◌};
 use crate::show::{heading, put_quoted};
 use crate::sums;
 use field::{EditOp, Edited, Field};
+use report::words::at_most;
 use report::{put, put_hex, put_labelled};
+use std::io;
 use text::refusal;
 use text::refusal::Verdict;
 
 // The first `len` of the bytes, in quotes.
-fn put_text(bytes: [u8; 64], len: u8) {
-    let n = io::count(len as isize, &bytes);
-    put_quoted(&bytes[..n]);
+fn put_text(rt: &impl Print, bytes: [u8; 64], len: u8) -> io::Result<()> {
+    let n = at_most(len as usize, 64);
+    put_quoted(rt, &bytes[..n])
 }
 
 // Length, caret, and the sum of all 64 bytes.
-fn put_state(f: Field) {
+fn put_state(rt: &impl Print, f: Field) -> io::Result<()> {
     let b = f.bytes;
-    put_labelled(b": length ", f.len as u64);
-    put_labelled(b", caret ", f.cursor as u64);
-    put(b", sum ");
-    put_hex(sums::sum_of(&b), 16);
+    put_labelled(rt, b": length ", f.len as u64)?;
+    put_labelled(rt, b", caret ", f.cursor as u64)?;
+    put(rt, b", sum ")?;
+    put_hex(rt, sums::sum_of(&b), 16)
 }
 
-fn put_field(f: Field) {
-    put_state(f);
-    put(b", ");
+fn put_field(rt: &impl Print, f: Field) -> io::Result<()> {
+    put_state(rt, f)?;
+    put(rt, b", ")?;
     let b = f.bytes;
-    put_text(b, f.len);
-    put(b"\n");
+    put_text(rt, b, f.len)?;
+    put(rt, b"\n")
 }
 
-fn put_place(f: Field) {
-    put_labelled(b" at ", f.cursor as u64);
-    put_labelled(b" of ", f.len as u64);
+fn put_place(rt: &impl Print, f: Field) -> io::Result<()> {
+    put_labelled(rt, b" at ", f.cursor as u64)?;
+    put_labelled(rt, b" of ", f.len as u64)
 }
 
 // The field with a character more of each size, ten bytes in all.
@@ -73,145 +75,152 @@ fn at(f: Field, n: u32) -> Field {
     g
 }
 
-fn insertion(f: Field, ch: u32) {
-    put(b"insert ");
-    put_hex(ch as u64, 6);
-    put_place(f);
-    put_field(f.insert(ch));
+fn insertion(rt: &impl Print, f: Field, ch: u32) -> io::Result<()> {
+    put(rt, b"insert ")?;
+    put_hex(rt, ch as u64, 6)?;
+    put_place(rt, f)?;
+    put_field(rt, f.insert(ch))
 }
 
-fn each_size(f: Field) {
-    insertion(f, 0x79);
-    insertion(f, 0xdf);
-    insertion(f, 0x4e2d);
-    insertion(f, 0x10348);
+fn each_size(rt: &impl Print, f: Field) -> io::Result<()> {
+    insertion(rt, f, 0x79)?;
+    insertion(rt, f, 0xdf)?;
+    insertion(rt, f, 0x4e2d)?;
+    insertion(rt, f, 0x10348)
 }
 
-fn each_place(f: Field) {
-    each_size(f.edit(EditOp::Home));
-    each_size(at(f, 12));
-    each_size(f.edit(EditOp::End));
+fn each_place(rt: &impl Print, f: Field) -> io::Result<()> {
+    each_size(rt, f.edit(EditOp::Home))?;
+    each_size(rt, at(f, 12))?;
+    each_size(rt, f.edit(EditOp::End))
 }
 
-fn insertions() {
-    heading(b"Characters of each size, put into fields of 61 to 64 bytes");
-    each_place(filled(1));
-    each_place(filled(2));
-    each_place(filled(3));
-    each_place(filled(4));
+fn insertions(rt: &impl Print) -> io::Result<()> {
+    heading(
+        rt,
+        b"Characters of each size, put into fields of 61 to 64 bytes",
+    )?;
+    each_place(rt, filled(1))?;
+    each_place(rt, filled(2))?;
+    each_place(rt, filled(3))?;
+    each_place(rt, filled(4))
 }
 
-fn no_characters() {
-    heading(b"Codes that are no characters");
+fn no_characters(rt: &impl Print) -> io::Result<()> {
+    heading(rt, b"Codes that are no characters")?;
     let f = at(with_four(Field::empty(), 0), 2);
-    insertion(f, 0xd800);
-    insertion(f, 0xdbff);
-    insertion(f, 0xdc00);
-    insertion(f, 0xdfff);
-    insertion(f, 0x110000);
-    insertion(f, 0xffffffff);
+    insertion(rt, f, 0xd800)?;
+    insertion(rt, f, 0xdbff)?;
+    insertion(rt, f, 0xdc00)?;
+    insertion(rt, f, 0xdfff)?;
+    insertion(rt, f, 0x110000)?;
+    insertion(rt, f, 0xffffffff)
 }
 
-fn put_name(op: EditOp) {
+fn put_name(rt: &impl Print, op: EditOp) -> io::Result<()> {
     match op {
-        EditOp::Backspace => put(b"backspace"),
-        EditOp::Delete => put(b"delete"),
-        EditOp::Left => put(b"left"),
-        EditOp::Right => put(b"right"),
-        EditOp::Home => put(b"home"),
-        EditOp::End => put(b"end"),
+        EditOp::Backspace => put(rt, b"backspace"),
+        EditOp::Delete => put(rt, b"delete"),
+        EditOp::Left => put(rt, b"left"),
+        EditOp::Right => put(rt, b"right"),
+        EditOp::Home => put(rt, b"home"),
+        EditOp::End => put(rt, b"end"),
     }
 }
 
-fn edit(f: Field, op: EditOp) {
-    put_name(op);
-    put_place(f);
-    put_field(f.edit(op));
+fn edit(rt: &impl Print, f: Field, op: EditOp) -> io::Result<()> {
+    put_name(rt, op)?;
+    put_place(rt, f)?;
+    put_field(rt, f.edit(op))
 }
 
-fn each_edit(f: Field) {
-    edit(f, EditOp::Backspace);
-    edit(f, EditOp::Delete);
-    edit(f, EditOp::Left);
-    edit(f, EditOp::Right);
-    edit(f, EditOp::Home);
-    edit(f, EditOp::End);
+fn each_edit(rt: &impl Print, f: Field) -> io::Result<()> {
+    edit(rt, f, EditOp::Backspace)?;
+    edit(rt, f, EditOp::Delete)?;
+    edit(rt, f, EditOp::Left)?;
+    edit(rt, f, EditOp::Right)?;
+    edit(rt, f, EditOp::Home)?;
+    edit(rt, f, EditOp::End)
 }
 
-fn small() {
-    heading(b"Every edit of an empty field, and of one with a character of each size");
-    each_edit(Field::empty());
+fn small(rt: &impl Print) -> io::Result<()> {
+    heading(
+        rt,
+        b"Every edit of an empty field, and of one with a character of each size",
+    )?;
+    each_edit(rt, Field::empty())?;
     let f = with_four(Field::empty(), 0);
-    each_edit(at(f, 0));
-    each_edit(at(f, 1));
-    each_edit(at(f, 2));
-    each_edit(at(f, 3));
-    each_edit(at(f, 4));
+    each_edit(rt, at(f, 0))?;
+    each_edit(rt, at(f, 1))?;
+    each_edit(rt, at(f, 2))?;
+    each_edit(rt, at(f, 3))?;
+    each_edit(rt, at(f, 4))
 }
 
-fn full() {
-    heading(b"Every edit of a full field");
+fn full(rt: &impl Print) -> io::Result<()> {
+    heading(rt, b"Every edit of a full field")?;
     let f = filled(4);
-    each_edit(at(f, 0));
-    each_edit(at(f, 12));
-    each_edit(at(f, 13));
-    each_edit(at(f, 14));
-    each_edit(at(f, 15));
-    each_edit(at(f, 28));
+    each_edit(rt, at(f, 0))?;
+    each_edit(rt, at(f, 12))?;
+    each_edit(rt, at(f, 13))?;
+    each_edit(rt, at(f, 14))?;
+    each_edit(rt, at(f, 15))?;
+    each_edit(rt, at(f, 28))
 }
 
 // One edit, `times` in a row.
-fn repeated(op: EditOp, start: Field, times: u32) {
+fn repeated(rt: &impl Print, op: EditOp, start: Field, times: u32) -> io::Result<()> {
     let mut f = start;
     for i in 0..times {
-        edit(f, op);
+        edit(rt, f, op)?;
         f = f.edit(op);
     }
+    Ok(())
 }
 
-fn emptied() {
+fn emptied(rt: &impl Print) -> io::Result<()> {
     let f = filled(4);
-    heading(b"A full field, emptied from its end");
-    repeated(EditOp::Backspace, f, 29);
-    heading(b"A full field, emptied from its start");
-    repeated(EditOp::Delete, f.edit(EditOp::Home), 29);
+    heading(rt, b"A full field, emptied from its end")?;
+    repeated(rt, EditOp::Backspace, f, 29)?;
+    heading(rt, b"A full field, emptied from its start")?;
+    repeated(rt, EditOp::Delete, f.edit(EditOp::Home), 29)
 }
 
-fn answer(e: Edited) {
+fn answer(rt: &impl Print, e: Edited) -> io::Result<()> {
     let v = e.verdict;
     let f = e.field;
-    put_labelled(b" gives ", v.number() as u64);
-    put_state(f);
-    put(b"\n");
+    put_labelled(rt, b" gives ", v.number() as u64)?;
+    put_state(rt, f)?;
+    put(rt, b"\n")
 }
 
 // What a caller is answered who asks for an edit and for a character, of the field with a character of each size and these counts.
-fn asked(name: &[u8], len: u8, cursor: u8) {
+fn asked(rt: &impl Print, name: &[u8], len: u8, cursor: u8) -> io::Result<()> {
     let mut f = with_four(Field::empty(), 0);
     f.len = len;
     f.cursor = cursor;
-    put(name);
-    put(b", left");
-    answer(f.try_edit(EditOp::Left));
-    put(name);
-    put(b", insert");
-    answer(f.try_insert(0x79));
+    put(rt, name)?;
+    put(rt, b", left")?;
+    answer(rt, f.try_edit(EditOp::Left))?;
+    put(rt, name)?;
+    put(rt, b", insert")?;
+    answer(rt, f.try_insert(0x79))
 }
 
-fn broken() {
-    heading(b"Fields that break the rules, and one that keeps them");
-    asked(b"sound", 10, 3);
-    asked(b"length above 64", 65, 3);
-    asked(b"caret past the length", 10, 11);
-    asked(b"caret inside a character", 10, 2);
-    asked(b"text cut short", 9, 3);
+fn broken(rt: &impl Print) -> io::Result<()> {
+    heading(rt, b"Fields that break the rules, and one that keeps them")?;
+    asked(rt, b"sound", 10, 3)?;
+    asked(rt, b"length above 64", 65, 3)?;
+    asked(rt, b"caret past the length", 10, 11)?;
+    asked(rt, b"caret inside a character", 10, 2)?;
+    asked(rt, b"text cut short", 9, 3)
 }
 
-pub(crate) fn run() {
-    insertions();
-    no_characters();
-    small();
-    full();
-    emptied();
-    broken();
+pub(crate) fn run(rt: &impl Print) -> io::Result<()> {
+    insertions(rt)?;
+    no_characters(rt)?;
+    small(rt)?;
+    full(rt)?;
+    emptied(rt)?;
+    broken(rt)
 }

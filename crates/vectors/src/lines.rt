@@ -1,7 +1,8 @@
 // Vectors given as the lines of one text, each line one vector.
 use crate::show::heading;
 use crate::{characters, readings, sums};
-use bytes::scan::find;
+use report::words::end_of;
+use std::io;
 
 // What is run on a line.
 #[derive(Clone, Copy)]
@@ -13,27 +14,28 @@ pub enum Kind {
     Width,
 }
 
-fn vector(kind: Kind, s: &[u8]) {
+fn vector(rt: &impl Print, kind: Kind, s: &[u8]) -> io::Result<()> {
     match kind {
-        Kind::Utf8 => characters::string(s),
-        Kind::Words => sums::words(s),
-        Kind::Bytes => sums::bytes(s),
-        Kind::Metres => readings::metres(s),
-        Kind::Width => readings::width(s),
+        Kind::Utf8 => characters::string(rt, s),
+        Kind::Words => sums::words(rt, s),
+        Kind::Bytes => sums::bytes(rt, s),
+        Kind::Metres => readings::metres(rt, s),
+        Kind::Width => readings::width(rt, s),
     }
 }
 
-fn each(kind: Kind, s: &[u8]) {
+fn each(rt: &impl Print, kind: Kind, s: &[u8]) -> io::Result<()> {
     let mut at = 0;
     while at < s.len() {
-        let end = find(s, at, s.len(), 10);
-        vector(kind, &s[at..end]);
+        let end = end_of(s, 10, at);
+        vector(rt, kind, &s[at..end])?;
         at = end + 1;
     }
+    Ok(())
 }
 
 // A heading, and a vector for each line.
-pub(crate) fn group(kind: Kind, name: &[u8], s: &[u8]) {
-    heading(name);
-    each(kind, s);
+pub(crate) fn group(rt: &impl Print, kind: Kind, name: &[u8], s: &[u8]) -> io::Result<()> {
+    heading(rt, name)?;
+    each(rt, kind, s)
 }

@@ -11,11 +11,14 @@ mod shares;
 mod show;
 mod sums;
 
-fn main() {
-    characters::run();
-    sums::run();
-    edits::run();
-    readings::run();
-    breaks::run();
-    shares::run();
+use std::io;
+
+fn main(rt: HostRuntime) -> io::Result<()> {
+    let rt = &rt;
+    characters::run(rt)?;
+    sums::run(rt)?;
+    edits::run(rt)?;
+    readings::run(rt)?;
+    breaks::run(rt)?;
+    shares::run(rt)
 }

@@ -5,6 +5,7 @@ use crate::show::{put_quoted, put_width};
 use field::Field;
 use field::metres::Metres;
 use report::{put, put_number};
+use std::io;
 use text::refusal;
 
 fn wide(b: u8) -> u32 {
@@ -20,36 +21,37 @@ fn typed(s: &[u8]) -> Field {
     f
 }
 
-fn put_metres(m: Metres) {
+fn put_metres(rt: &impl Print, m: Metres) -> io::Result<()> {
     match m {
         Metres::Centimetres(x) => {
-            put(b"0, ");
-            put_number(x as u64);
+            put(rt, b"0, ")?;
+            put_number(rt, x as u64)
         }
         Metres::Refused(word) => {
-            put_number(refusal::number(word) as u64);
-            put(b", 0");
+            put_number(rt, refusal::number(word) as u64)?;
+            put(rt, b", 0")
         }
     }
 }
 
 // A text, the number that refuses it or 0, and the centimetres.
-pub(crate) fn metres(s: &[u8]) {
-    put_quoted(s);
-    put(b": ");
-    put_metres(typed(s).metres());
-    put(b"\n");
+pub(crate) fn metres(rt: &impl Print, s: &[u8]) -> io::Result<()> {
+    put_quoted(rt, s)?;
+    put(rt, b": ")?;
+    put_metres(rt, typed(s).metres())?;
+    put(rt, b"\n")
 }
 
-pub(crate) fn width(s: &[u8]) {
-    put_quoted(s);
-    put(b": ");
-    put_width(text::measure(s));
-    put(b"\n");
+pub(crate) fn width(rt: &impl Print, s: &[u8]) -> io::Result<()> {
+    put_quoted(rt, s)?;
+    put(rt, b": ")?;
+    put_width(rt, text::measure(s))?;
+    put(rt, b"\n")
 }
 
-pub(crate) fn run() {
+pub(crate) fn run(rt: &impl Print) -> io::Result<()> {
     lines::group(
+        rt,
         Kind::Metres,
         b"Metres: the number of the answer, and centimetres",
         b"\n\
@@ -94,8 +96,9 @@ pub(crate) fn run() {
         \x09\n\
         \x097\n\
         7\x09\n",
-    );
+    )?;
     lines::group(
+        rt,
         Kind::Width,
         b"Widths, in raw units",
         b"\n\
@@ -104,5 +107,5 @@ pub(crate) fn run() {
         \xc3\xa9\n\
         H\xc3\xa9\xe2\x82\xac\xf0\x9f\x98\x80i\n\
         \x20!\"#$%&'()*+,-./0123456789:;<=>?@ABCDEFGHIJKLMNOPQRSTUVWXYZ[\\]^_`abcdefghijklmnopqrstuvwxyz{|}~\n",
-    );
+    )
 }
