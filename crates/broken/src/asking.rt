@@ -7,6 +7,7 @@ use field::NodeId;
 use field::metres::Metres;
 use report::put;
 use report::words::part;
+use std::io;
 use text::refusal;
 use text::refusal::{Refusal, Verdict};
 use tree::Ui;
@@ -74,7 +75,7 @@ fn field_text(u: Ui, d: NodeId) -> Answer {
         TextLength::Bytes(n) => accepted(),
         TextLength::Refused(word) => {
             let bytes = r.bytes;
-            refused(word, check::same(&bytes, &[0u8; 64]))
+            refused(word, bytes == [0u8; 64])
         }
     }
 }
@@ -174,7 +175,7 @@ pub(crate) fn ask(u: Ui, call: u32, d: NodeId) -> Answer {
     }
 }
 
-pub(crate) fn put_call(call: u32) {
+pub(crate) fn put_call(rt: &impl Print, call: u32) -> io::Result<()> {
     let names = b"insert\n\
         remove\n\
         set_style\n\
@@ -193,5 +194,5 @@ pub(crate) fn put_call(call: u32) {
         handle (a key)\n\
         next_output\n\
         absorb\n";
-    put(part(names, 10, call as usize));
+    put(rt, part(names, 10, call as usize))
 }

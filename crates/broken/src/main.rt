@@ -11,20 +11,25 @@ mod rows;
 mod samples;
 
 use report::put;
+use std::io;
 
-fn main() {
-    rows::counts();
-    rows::reach();
-    rows::links();
-    rows::free();
-    rows::states();
-    rows::stated();
-    rows::fields();
-    let kept = samples::kept();
-    let broken = samples::broken();
+fn main(rt: HostRuntime) -> io::Result<()> {
+    let rt = &rt;
+    rows::counts(rt)?;
+    rows::reach(rt)?;
+    rows::links(rt)?;
+    rows::free(rt)?;
+    rows::states(rt)?;
+    rows::stated(rt)?;
+    rows::fields(rt)?;
+    let kept = samples::kept(rt)?;
+    let broken = samples::broken(rt)?;
     if kept & broken {
-        put(b"every edit alike in both forms, and as the rules ask\n");
+        put(
+            rt,
+            b"every edit alike in both forms, and as the rules ask\n",
+        )
     } else {
-        put(b"SOME EDIT IS WRONG\n");
+        put(rt, b"SOME EDIT IS WRONG\n")
     }
 }

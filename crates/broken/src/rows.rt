@@ -5,21 +5,22 @@ use crate::{asking, good};
 use damage::{Edits, Link, Mark, Part, StatePart, same};
 use field::NodeId;
 use report::{put, put_number};
+use std::io;
 use tree::Ui;
 
 // No neighbour.
 const NIL: u32 = 4294967295;
 
 // What went wrong at a call.
-fn put_wrong(call: u32, answer: Answer) {
-    put(b" ");
-    asking::put_call(call);
-    put(b" answers ");
-    put_number(answer.number as u64);
+fn put_wrong(rt: &impl Print, call: u32, answer: Answer) -> io::Result<()> {
+    put(rt, b" ")?;
+    asking::put_call(rt, call)?;
+    put(rt, b" answers ")?;
+    put_number(rt, answer.number as u64)?;
     if (answer.number == 1) & !answer.untouched {
-        put(b" and changes something");
+        put(rt, b" and changes something")?;
     }
-    put(b";");
+    put(rt, b";")
 }
 
 // Every call is asked with a node that lives in the good tree, and those that name one again with a node that never was.
@@ -49,7 +50,7 @@ fn as_due(broken: bool, call: u32, answer: Answer) -> bool {
 }
 
 // How many of the calls are; the others are written.
-fn answers_due(u: Ui, here: u32, broken: bool) -> u32 {
+fn answers_due(rt: &impl Print, u: Ui, here: u32, broken: bool) -> io::Result<u32> {
     let mut due: u32 = 0;
     for k in 0..ASKED {
         let call = call_of(k);
@@ -57,10 +58,10 @@ fn answers_due(u: Ui, here: u32, broken: bool) -> u32 {
         if as_due(broken, call, answer) {
             due += 1;
         } else {
-            put_wrong(call, answer);
+            put_wrong(rt, call, answer)?;
         }
     }
-    due
+    Ok(due)
 }
 
 fn damaged(base: Base, edits: Edits) -> Ui {
@@ -74,27 +75,34 @@ fn seen(base: Base, edits: Edits) -> bool {
 }
 
 // One row. `here` is a node that lives in both trees.
-fn row(name: &[u8], base: Base, here: u32, bad: Edits, near: Edits) {
-    put(name);
-    put(b":");
+fn row(
+    rt: &impl Print,
+    name: &[u8],
+    base: Base,
+    here: u32,
+    bad: Edits,
+    near: Edits,
+) -> io::Result<()> {
+    put(rt, name)?;
+    put(rt, b":")?;
     if !seen(base, bad) {
-        put(b" no damage seen;");
+        put(rt, b" no damage seen;")?;
     }
-    let refused = answers_due(damaged(base, bad), here, true);
+    let refused = answers_due(rt, damaged(base, bad), here, true)?;
     if refused == ASKED {
-        put(b" ");
-        put_number(refused as u64);
-        put(b" calls refused by 1, tree unchanged;");
+        put(rt, b" ")?;
+        put_number(rt, refused as u64)?;
+        put(rt, b" calls refused by 1, tree unchanged;")?;
     }
-    let served = answers_due(damaged(base, near), here, false);
+    let served = answers_due(rt, damaged(base, near), here, false)?;
     if served == ASKED {
-        put(b" neighbour served");
+        put(rt, b" neighbour served")?;
     }
-    put(b"\n");
+    put(rt, b"\n")
 }
 
-fn grown(name: &[u8], bad: Edits, near: Edits) {
-    row(name, Base::Grown, 2, bad, near);
+fn grown(rt: &impl Print, name: &[u8], bad: Edits, near: Edits) -> io::Result<()> {
+    row(rt, name, Base::Grown, 2, bad, near)
 }
 
 fn set(part: Part, at: u32, value: u32) -> Edits {
@@ -110,31 +118,35 @@ fn mark(mark: Mark, at: u32, value: u32) -> Edits {
 }
 
 // Slots, patches, the root.
-pub(crate) fn counts() {
+pub(crate) fn counts(rt: &impl Print) -> io::Result<()> {
     row(
+        rt,
         b"0 slots",
         Base::Alone,
         0,
         set(Part::Limit, 0, 0),
         set(Part::Limit, 0, 1),
-    );
+    )?;
     row(
+        rt,
         b"129 slots",
         Base::Wide,
         0,
         set(Part::Limit, 0, 129),
         set(Part::Limit, 0, 128),
-    );
+    )?;
     grown(
+        rt,
         b"65 patches",
         set(Part::Patches, 0, 65),
         set(Part::Patches, 0, 64),
-    );
+    )?;
     grown(
+        rt,
         b"root dead",
         link(Link::Live, 0, 0),
         link(Link::Generation, 0, 7),
-    );
+    )
 }
 
 // The edits that take slot 8 from the free chain and make it live; linked as the root's last child it is one of the tree.
@@ -170,15 +182,16 @@ fn moved() -> Edits {
 }
 
 // Live nodes are just those reached from the root, each in one child chain.
-pub(crate) fn reach() {
-    grown(b"live node not reached", awake(), adopted());
-    grown(b"reached slot dead", asleep(), dismissed());
-    grown(b"slot in two chains", shared(), moved());
+pub(crate) fn reach(rt: &impl Print) -> io::Result<()> {
+    grown(rt, b"live node not reached", awake(), adopted())?;
+    grown(rt, b"reached slot dead", asleep(), dismissed())?;
+    grown(rt, b"slot in two chains", shared(), moved())?;
     grown(
+        rt,
         b"cycle",
         link(Link::Next, 4, 2),
         link(Link::Prev, 8, 7).link(Link::Prev, 7, 8),
-    );
+    )
 }
 
 // The children of 1 in the order 2, 4, 3 by their next links alone, and by both.
@@ -188,37 +201,43 @@ fn reordered() -> Edits {
 }
 
 // Links equal both ways. Of a dead slot only the next link is ruled.
-pub(crate) fn links() {
+pub(crate) fn links(rt: &impl Print) -> io::Result<()> {
     grown(
+        rt,
         b"parent link one way",
         link(Link::Parent, 3, 5),
         link(Link::Parent, 8, 5),
-    );
+    )?;
     grown(
+        rt,
         b"previous link one way",
         link(Link::Prev, 3, NIL),
         link(Link::Prev, 8, NIL),
-    );
+    )?;
     grown(
+        rt,
         b"next links one way",
         reordered(),
         reordered().link(Link::Prev, 4, 2).link(Link::Prev, 3, 4),
-    );
+    )?;
     grown(
+        rt,
         b"first child one way",
         link(Link::First, 3, 128),
         link(Link::First, 8, 128),
-    );
+    )?;
     grown(
+        rt,
         b"last child one way",
         link(Link::Last, 1, 3),
         link(Link::Last, 8, 3),
-    );
+    )?;
     grown(
+        rt,
         b"parent above the root",
         link(Link::Parent, 0, 1),
         link(Link::Parent, 7, 1),
-    );
+    )
 }
 
 fn swapped() -> Edits {
@@ -232,37 +251,42 @@ fn rotated() -> Edits {
 }
 
 // The free chain, 8, 7, 9, 10, 11, and the live count.
-pub(crate) fn free() {
+pub(crate) fn free(rt: &impl Print) -> io::Result<()> {
     grown(
+        rt,
         b"dead slot not in the free chain",
         set(Part::Free, 0, 7),
         swapped(),
-    );
+    )?;
     grown(
+        rt,
         b"slot twice in the free chain",
         link(Link::Next, 11, 8),
         rotated(),
-    );
-    grown(b"wrong live count", set(Part::Count, 0, 8), adopted());
+    )?;
+    grown(rt, b"wrong live count", set(Part::Count, 0, 8), adopted())
 }
 
 // Worn and table numbers, and bits. The pool has two patches.
-pub(crate) fn states() {
+pub(crate) fn states(rt: &impl Print) -> io::Result<()> {
     grown(
+        rt,
         b"worn number past the pool",
         set(Part::OfState(StatePart::Applied), 3, 2),
         set(Part::OfState(StatePart::Applied), 3, 1),
-    );
+    )?;
     grown(
+        rt,
         b"table number past the pool",
         set(Part::OfState(StatePart::Table), 3, 2),
         set(Part::OfState(StatePart::Table), 3, 1),
-    );
+    )?;
     grown(
+        rt,
         b"bits 8",
         set(Part::OfState(StatePart::Bits), 3, 8),
         set(Part::OfState(StatePart::Bits), 3, 7),
-    );
+    )
 }
 
 fn stated_slots(first: u32, second: u32, third: u32, count: u32) -> Edits {
@@ -272,27 +296,31 @@ fn stated_slots(first: u32, second: u32, third: u32, count: u32) -> Edits {
 }
 
 // Stated slots, and the queue.
-pub(crate) fn stated() {
+pub(crate) fn stated(rt: &impl Print) -> io::Result<()> {
     grown(
+        rt,
         b"4 stated slots",
         stated_slots(2, 3, 0, 4),
         stated_slots(2, 3, 0, 3),
-    );
+    )?;
     grown(
+        rt,
         b"stated slot twice",
         stated_slots(2, 3, 2, 3),
         stated_slots(2, 3, 2, 2),
-    );
+    )?;
     grown(
+        rt,
         b"stated slot out of range",
         stated_slots(12, 3, 0, 2),
         stated_slots(11, 3, 0, 2),
-    );
+    )?;
     grown(
+        rt,
         b"queue over the limit",
         set(Part::Outputs, 0, 13),
         set(Part::Outputs, 0, 12),
-    );
+    )
 }
 
 // Field 1 with a text of one or two bytes, so long, and the caret there.
@@ -303,26 +331,35 @@ fn text(first: u32, second: u32, length: u32, caret: u32) -> Edits {
         .mark(Mark::Caret, 1, caret)
 }
 
-pub(crate) fn fields() {
+pub(crate) fn fields(rt: &impl Print) -> io::Result<()> {
     grown(
+        rt,
         b"two fields with one owner",
         mark(Mark::Owner, 1, 1),
         mark(Mark::Owner, 1, 2),
-    );
+    )?;
     grown(
+        rt,
         b"field of length 65",
         text(55, 46, 65, 0),
         text(55, 46, 64, 0),
-    );
-    grown(b"text not UTF-8", text(128, 0, 1, 0), text(128, 0, 0, 0));
+    )?;
     grown(
+        rt,
+        b"text not UTF-8",
+        text(128, 0, 1, 0),
+        text(128, 0, 0, 0),
+    )?;
+    grown(
+        rt,
         b"caret inside a character",
         text(195, 169, 2, 1),
         text(195, 169, 2, 2),
-    );
+    )?;
     grown(
+        rt,
         b"caret past the length",
         text(55, 46, 1, 2),
         text(55, 46, 1, 1),
-    );
+    )
 }

@@ -5,7 +5,7 @@ use tree::state::moves_geometry;
 use tree::{Interaction, LayoutSlot, Pixel, Pointer, Rect, Slot, StatePatch, StateSlot, Style, Ui};
 
 fn same_colour(a: [u8; 4], b: [u8; 4]) -> bool {
-    check::same(&a, &b)
+    a == b
 }
 
 fn same_style(a: Style, b: Style) -> bool {
@@ -78,7 +78,7 @@ pub fn same_field(a: Field, b: Field) -> bool {
     let counts = (a.len == b.len) & (a.cursor == b.cursor);
     let c = a.owner;
     let d = b.owner;
-    counts & (check::same(&s, &t) & same_maybe(c, d))
+    counts & (s == t) & same_maybe(c, d)
 }
 
 fn is_nowhere(p: Pointer) -> bool {
