@@ -1,10 +1,9 @@
 // One call, read from a line.
 use crate::styles;
-use check::same;
 use desk::UiEvent;
 use field::{EditOp, NodeId};
 use report::words;
-use report::words::{HexRead, place, word};
+use report::words::{HexRead, place, same, word};
 use text::Measured;
 use tree::{StatePatch, Style, Viewport};
 
@@ -185,7 +184,7 @@ fn measure_of(w: &[u8]) -> Word {
     let h = words::hex(w);
     if h.ok {
         let bytes = h.bytes;
-        let n = io::count(words::at_most(h.len, 512) as isize, &bytes);
+        let n = words::at_most(h.len, 512);
         return Word::Measure(text::measure(&bytes[..n]));
     }
     Word::Malformed
@@ -357,7 +356,7 @@ fn call_of(s: &[u8]) -> Call {
 }
 
 fn front(s: &[u8], n: usize) -> &[u8] {
-    let k = io::count(words::at_most(n, 1024) as isize, s);
+    let k = words::at_most(words::at_most(n, 1024), s.len());
     &s[..k]
 }
 

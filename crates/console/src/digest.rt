@@ -204,7 +204,7 @@ fn slots(h: StateHash, u: Ui) -> StateHash {
 
 fn field(h: StateHash, f: Field) -> StateHash {
     let bytes = f.bytes;
-    let n = io::count(f.len as isize, &bytes);
+    let n = at_most(f.len as usize, 64);
     let owner = f.owner;
     let counts = maybe(h, owner)
         .absorb_u32(f.len as u32)

@@ -6,6 +6,7 @@ use crate::calls::Lines;
 use report::line::Line;
 use report::pipes::Pipes;
 use report::{pipes, words};
+use std::io;
 use text::lines;
 use text::lines::LineCount;
 
@@ -64,13 +65,19 @@ fn place(start: u32) -> Line {
 }
 
 // Writes the places, a part each: all of them take up to 12,100 bytes.
-fn put_places(out: &mut [u8; 4096], start: Pipes, places: &[u32; 1100], room: usize) -> Pipes {
+fn put_places(
+    rt: &impl Print,
+    out: &mut [u8; 4096],
+    start: Pipes,
+    places: &[u32; 1100],
+    room: usize,
+) -> io::Result<Pipes> {
     let n = words::at_most(room, 1100);
     let mut held = start;
     for i in 0..n {
-        held = pipes::put_part(out, held, place(places[i]));
+        held = pipes::put_part(rt, out, held, place(places[i]))?;
     }
-    held
+    Ok(held)
 }
 
 impl Label {
@@ -106,12 +113,18 @@ impl Label {
     }
 
     // Writes what `lines` answers of this label, but for the newline.
-    pub(crate) fn put_lines(self, out: &mut [u8; 4096], start: Pipes, asked: Lines) -> Pipes {
+    pub(crate) fn put_lines(
+        self,
+        rt: &impl Print,
+        out: &mut [u8; 4096],
+        start: Pipes,
+        asked: Lines,
+    ) -> io::Result<Pipes> {
         let bytes = self.bytes;
-        let n = io::count(words::at_most(self.len, 1100) as isize, &bytes);
+        let n = words::at_most(self.len, 1100);
         let mut places = marked();
         let answer = counted(broken(&bytes[..n], asked, &mut places));
-        let held = pipes::put_part(out, start, answer);
-        put_places(out, held, &places, asked.room)
+        let held = pipes::put_part(rt, out, start, answer)?;
+        put_places(rt, out, held, &places, asked.room)
     }
 }

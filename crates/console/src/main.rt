@@ -10,26 +10,28 @@ mod waiting;
 
 use calls::Kind;
 use label::Label;
-use libc::{STDERR_FILENO, STDIN_FILENO};
 use report::line::Line;
 use report::pipes;
 use report::pipes::Pipes;
+use std::io;
+use std::io::IsTerminal;
 use tree::{Ui, UiLimits};
 use waiting::Waiting;
 
 // Tells a person at a terminal how to go on. Standard output carries the answers alone, so that this goes to standard error.
-fn greet() {
-    if libc::isatty(STDIN_FILENO) == 1 {
-        io::write_all(
-            STDERR_FILENO,
-            b"console: one call a line, as 'new 4' and then 'insert 0 1'; docs/CONSOLE.md lists all calls; Ctrl-D ends\n",
-        );
+fn greet(rt: &impl Eprint, input: &impl IsTerminal) -> io::Result<()> {
+    if input.is_terminal() {
+        eprintln!(rt;
+            "console: one call a line, as 'new 4' and then 'insert 0 1'; docs/CONSOLE.md lists all calls; Ctrl-D ends"
+        )?;
     }
+    Ok(())
 }
 
 // The tree goes on in the last answer. A script is at most 1,048,576 bytes long, and each line takes one or more of them.
-fn main() {
-    greet();
+fn main(rt: HostRuntime) -> io::Result<()> {
+    let mut input = rt.stdin();
+    greet(&rt, &input)?;
     let mut c = Ui::new(UiLimits { nodes: 1 });
     let mut waiting = Waiting::none();
     let mut label = Label::none();
@@ -39,7 +41,7 @@ fn main() {
     let mut held = Pipes::new();
     let mut read: usize = 0;
     while read <= 1048576 {
-        let taken = pipes::next_line(&mut text, &mut chunk, &mut out, held);
+        let taken = pipes::next_line(&rt, &mut input, &mut text, &mut chunk, &out, held)?;
         held = taken.pipes;
         let n = taken.len;
         read += taken.taken;
@@ -47,7 +49,7 @@ fn main() {
             break;
         }
         if (1024 < n) | (1048576 < read) {
-            held = pipes::put(&mut out, held, Line::malformed());
+            held = pipes::put(&rt, &mut out, held, Line::malformed())?;
             break;
         }
         if calls::passed_over(&text, n) {
@@ -85,13 +87,13 @@ fn main() {
                 label = added.label;
             }
             Kind::Lines(asked) => {
-                held = label.put_lines(&mut out, held, asked);
+                held = label.put_lines(&rt, &mut out, held, asked)?;
                 label.len = 0;
                 // All is written but the newline.
                 line = Line::empty();
             }
         }
-        held = pipes::put(&mut out, held, line);
+        held = pipes::put(&rt, &mut out, held, line)?;
     }
-    pipes::flush(&mut out, held.held);
+    pipes::flush(&rt, &out, held.held)
 }

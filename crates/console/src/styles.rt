@@ -1,7 +1,6 @@
 // STYLE: nineteen words.
-use check::same;
 use report::words;
-use report::words::{place, word};
+use report::words::{place, same, word};
 use tree::{Align, Direction, Edges, Size, Style};
 
 // A style; `ok` is false where a word is malformed.

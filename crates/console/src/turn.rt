@@ -7,6 +7,7 @@ use desk::Fingerprint;
 use field::metres::Metres;
 use field::{MaybeId, NodeId};
 use report::line::Line;
+use report::words::at_most;
 use text::Measured;
 use text::refusal::Verdict;
 use tree::answers::{Caret, Changed, Liveness, Neighbour, NewId, NodeRect, TextLength};
@@ -40,7 +41,7 @@ fn neighbour(n: Neighbour) -> Line {
 fn text_of(a: TextLength, bytes: [u8; 64]) -> Line {
     match a {
         TextLength::Bytes(len) => {
-            let n = io::count(len as isize, &bytes);
+            let n = at_most(len as usize, 64);
             Line::accepted().number(len as u64).bytes(&bytes[..n])
         }
         TextLength::Refused(word) => Line::refused(word).text(b" 0 -"),
