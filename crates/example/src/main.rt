@@ -4,26 +4,26 @@
 use desk::UiEvent;
 use field::NodeId;
 use field::metres::Metres;
-use libc::STDOUT_FILENO;
+use std::io;
 use text::refusal;
 use tree::answers::NewId;
 use tree::{Size, Style, Ui, UiLimits, Viewport};
 
-fn main() {
+fn main(rt: HostRuntime) -> io::Result<()> {
     let made = Ui::new(UiLimits { nodes: 8 });
     let inserted = made.tree.insert(Ui::root());
     let answer = inserted.answer;
     match answer {
-        NewId::Refused(word) => show(Metres::Refused(word)),
+        NewId::Refused(word) => show(&rt, Metres::Refused(word)),
         NewId::Id(draught) => {
             let mut u = with_field(inserted.tree, draught);
-            show(desk::metres(u, draught));
+            show(&rt, desk::metres(u, draught))?;
             u = clicked(u, 10, 10);
             u = typed(u, b'4');
             u = typed(u, b'.');
             u = typed(u, b'2');
             u = typed(u, b'5');
-            show(desk::metres(u, draught));
+            show(&rt, desk::metres(u, draught))
         }
     }
 }
@@ -54,17 +54,14 @@ fn typed(u: Ui, key: u8) -> Ui {
     next.tree
 }
 
-fn show(m: Metres) {
+fn show(rt: &impl Print, m: Metres) -> io::Result<()> {
     match m {
-        Metres::Centimetres(n) => line(b"centimetres: ", n as u64),
-        Metres::Refused(word) => line(b"refused by number ", refusal::number(word) as u64),
+        Metres::Centimetres(n) => println!(rt; "centimetres: {n}"),
+        Metres::Refused(word) => {
+            let n = refusal::number(word);
+            println!(rt; "refused by number {n}")
+        }
     }
-}
-
-fn line(words: &[u8], n: u64) {
-    io::write_all(STDOUT_FILENO, words);
-    io::print_decimal(STDOUT_FILENO, n);
-    io::write_all(STDOUT_FILENO, b"\n");
 }
 
 fn pixels(n: i32) -> i64 {
