@@ -1,4 +1,4 @@
-//! The processor time of this process, which is what the proved library reads too: other processes on the machine do not count.
+//! The processor time of this process: other processes on the machine do not count.
 
 #[repr(C)]
 struct Timespec {

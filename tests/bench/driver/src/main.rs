@@ -127,8 +127,7 @@ fn on_a_stack<R: Send>(work: impl FnOnce() -> R + Send) -> R {
 
 /// Runs a row with few calls; whether the fingerprints are equal.
 fn checked(row: &Row) -> bool {
-    let (fingerprint, _) = proved::run(row.shape, row.kind, FEW);
-    same(row, FEW, fingerprint)
+    same(row, FEW, proved::fingerprint(row.shape, row.kind, FEW))
 }
 
 /// `--check` compares and times nothing; any other word leaves only the rows that have it in them.
