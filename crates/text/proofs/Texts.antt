@@ -5,7 +5,7 @@ use mathlib.Core.List.{List, [], ◌∷◌, ◌++◌, append_assoc}
 use Prim.Native.Nat.{ℕ}
 use borrow.Author.Tests.{eqb-true, eq-eqb}
 use Rattle.text.specs.Utf8.{is_scalar, all_scalars, encoded, encoded_all}
-use Rattle.text.specs.Reader.{start, run_from, is_utf8}
+use Rattle.text.specs.Reader.{start, step_of, run_from, is_utf8}
 use Rattle.text.specs.declared.utf8.Place.{Place}
 use Rattle.arithmetic.proofs.BoolLaws.{and_left, and_right, and_both}
 use Rattle.text.proofs.Complete.{fresh_run}
@@ -31,7 +31,7 @@ scalars_part (c ∷ x) y h =
 run_joins : (p : Place) (s t : List ℕ) → run_from p (s ++ t) ≡ run_from (run_from p s) t
 unfolding run_from
 run_joins p [] t = refl
-run_joins p (b ∷ s) t = run_joins _ s t
+run_joins p (b ∷ s) t = run_joins (step_of p b) s t
 
 -- what follows well-formed bytes in well-formed bytes is well-formed
 pub rest_is_utf8 : (s t : List ℕ) → is_utf8 s ≡ true → is_utf8 (s ++ t) ≡ true → is_utf8 t ≡ true

@@ -1,7 +1,6 @@
 -- By whether a character has ended, and whether the sum stops. Assumes nothing.
 use native.Mathlib.Omega.{arith}
 use borrow.Author.Tests.{eq-eqb, ne_eqb}
-use borrow.Author.Rules.{rules}
 use Rattle.text.specs.Advance.{counted_of}
 use Rattle.text.proofs.counted.Goals as goal
 

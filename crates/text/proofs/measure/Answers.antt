@@ -1,18 +1,15 @@
-use mathlib.Core.List.{map}
-use mathlib.Core.Path.{◌≡◌, sym, ap, ◌∙◌}
-use Prim.Native.Nat.{◌-◌, ◌≤◌, ◌<◌, ◌^◌}
+use mathlib.Core.Path.{sym, ap, ◌∙◌}
 use native.Mathlib.Omega.{arith}
 use borrow.Author.Rules.{rules}
 use borrow.Author.Tests.{eq-eqb, ne_eqb}
 use mir.Facts.{to_z_pos}
 use mir.Syntax.{w32}
-use lib.ListN.{length, drop}
 use Rattle.arithmetic.proofs.Signed.{bits_read_back}
 use Rattle.arithmetic.specs.Scalar.{from_int}
 use Rattle.text.specs.Refusal.{accepted}
-use Rattle.text.specs.Advance.{advance_of, stop_sum, measure_of}
-use Rattle.text.specs.Reader.{run_from, is_utf8, start, scalars, scalars_from}
-use Rattle.text.proofs.Runs.{Small, room, small_code, small_step, run_more, run_done, width_more, width_done, counted_top}
+use Rattle.text.specs.Advance.{measure_of}
+use Rattle.text.specs.Reader.{is_utf8, scalars}
+use Rattle.text.proofs.Runs.{room, small_code, small_step, run_more, run_done, width_more, width_done, counted_top}
 use Rattle.text.proofs.measure.Goals as goal
 
 pub loop-i-init : goal.loop-i-init
@@ -36,7 +33,7 @@ loop-i-preserved c = (
 
 pub returns-then-p-eq0 : goal.returns-then-p-eq0
 unfolding measure_of is_utf8 scalars
-returns-then-p-eq0 c = rw (← c.loop-i.invariant.2, run_done _ _ _ c.loop-i-test.false, eq-eqb _ _ c.if-p-eq0.true, ← c.loop-i.invariant.4, width_done _ _ _ _ c.loop-i-test.false) (ap accepted (bits_read_back c.?from_int_lem.result c.?from_int_lem.type-inv ∙ c.?from_int_lem.ensures ∙ ap from_int (to_z_pos w32 (omega (arith, c.loop-i.invariant.3)))))
+returns-then-p-eq0 c = rw (← c.loop-i.invariant.2, run_done _ _ _ c.loop-i-test.false, eq-eqb _ _ c.if-p-eq0.true, ← c.loop-i.invariant.4, width_done _ _ _ _ c.loop-i-test.false) (ap accepted (bits_read_back c.from_int.result (search rules) ∙ c.from_int.ensures ∙ ap from_int (to_z_pos w32 (omega (arith, c.loop-i.invariant.3)))))
 
 pub returns-else-p-eq0 : goal.returns-else-p-eq0
 unfolding measure_of is_utf8 scalars

@@ -1,19 +1,11 @@
 -- The reader and the sum so far, taken over the bytes that are left, give what they give over all. Assumes nothing.
 use mathlib.Core.List.{map}
-use mathlib.Core.Path.{◌≡◌, sym, ap, ◌∙◌}
+use mathlib.Core.Path.{◌≡◌}
 use Prim.Native.Nat.{◌-◌, ◌≤◌, ◌<◌, ◌^◌}
-use native.Mathlib.Omega.{arith}
-use borrow.Author.Rules.{rules}
-use borrow.Author.Tests.{eq-eqb, ne_eqb}
-use mir.Facts.{to_z_pos}
-use mir.Syntax.{w32}
 use lib.ListN.{length, drop}
-use Rattle.arithmetic.proofs.Signed.{bits_read_back}
-use Rattle.arithmetic.specs.Scalar.{from_int}
-use Rattle.text.specs.Refusal.{accepted}
-use Rattle.text.specs.Advance.{advance_of, stop_sum, measure_of}
-use Rattle.text.specs.Reader.{run_from, is_utf8, start, scalars, scalars_from}
-use Rattle.text.proofs.Runs.{Small, room, small_code, small_step, run_more, run_done, width_more, width_done, counted_top}
+use Rattle.text.specs.Advance.{advance_of, stop_sum}
+use Rattle.text.specs.Reader.{run_from, start, scalars_from}
+use Rattle.text.proofs.Runs.{Small}
 use Rattle.text.proofs.measure.Given as goal
 
 abbrev pub invariant-loop-i : goal.invariant-loop-i

@@ -1,10 +1,8 @@
-use mathlib.Core.Path.{◌≡◌, ap}
-use Prim.Native.Nat.{◌+◌, ◌-◌, ◌≤◌, max}
+use mathlib.Core.Path.{ap}
 use native.Mathlib.Omega.{arith}
-use borrow.Author.Rules.{rules}
 use lib.ListN.{length}
 use Rattle.text.specs.Lines.{widest_in}
-use Rattle.text.specs.Support.LineParts.{weight_of, lines_from}
+use Rattle.text.specs.Support.LineParts.{weight_of}
 use Rattle.text.proofs.LineParts.{no_lines, one_line_more}
 use Rattle.text.proofs.lines.counted.Goals as goal
 
@@ -12,7 +10,7 @@ pub loop-at-init : goal.loop-at-init
 loop-at-init c = (omega arith, omega arith, omega arith, omega arith)
 
 pub line-l-requires : goal.line-l-requires
-line-l-requires c = (c.requires, c.loop-at-test.true)
+line-l-requires c = record { s_len_bound = c.requires; from_in_bounds = c.loop-at-test.true }
 
 pub overflow_add-at : goal.overflow_add-at
 overflow_add-at c = omega (arith, c.line-l.ensures.inside)

@@ -1,13 +1,10 @@
 -- The loop's invariant: what is counted, and the lines from `at` on, are all lines. The measure is what is left of the bytes, and one more, since the
 -- last line may be empty. Assumes nothing.
-use mathlib.Core.Path.{◌≡◌, ap}
+use mathlib.Core.Path.{◌≡◌}
 use Prim.Native.Nat.{◌+◌, ◌-◌, ◌≤◌, max}
-use native.Mathlib.Omega.{arith}
-use borrow.Author.Rules.{rules}
 use lib.ListN.{length}
 use Rattle.text.specs.Lines.{widest_in}
 use Rattle.text.specs.Support.LineParts.{weight_of, lines_from}
-use Rattle.text.proofs.LineParts.{no_lines, one_line_more}
 use Rattle.text.proofs.lines.counted.Given as goal
 
 abbrev pub invariant-loop-at : goal.invariant-loop-at

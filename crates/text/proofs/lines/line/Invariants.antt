@@ -1,10 +1,8 @@
 -- The loop's invariant: what is taken, and the line that goes on behind it, are the line at `from` (`LineTo`). The measure is what is left of the
 -- bytes. Assumes nothing.
 use Prim.Native.Nat.{◌-◌}
-use native.Mathlib.Omega.{arith}
-use borrow.Author.Rules.{rules}
 use lib.ListN.{length}
-use Rattle.text.proofs.LineParts.{LineTo, line_start, line_small, line_step, line_full, line_done}
+use Rattle.text.proofs.LineParts.{LineTo}
 use Rattle.text.proofs.lines.line.Given as goal
 
 abbrev pub invariant-loop-taken : goal.invariant-loop-taken

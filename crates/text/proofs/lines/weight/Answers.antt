@@ -1,5 +1,4 @@
 -- A tail weighs nothing, and any other byte what its code does. Assumes nothing.
-use borrow.Author.Rules.{rules}
 use mathlib.Core.Path.{sym, ◌∙◌}
 use Rattle.text.specs.Support.LineParts.{weight_of}
 use Rattle.text.proofs.lines.weight.Goals as goal

@@ -1,11 +1,8 @@
 -- The loop's invariant: what is behind i, and the word that goes on at i, are the word at `from` (`WordTo`). The measure is what is left of the
 -- bytes. Assumes nothing.
-use mathlib.Core.Path.{refl}
 use Prim.Native.Nat.{◌-◌}
-use native.Mathlib.Omega.{arith}
-use borrow.Author.Rules.{rules}
 use lib.ListN.{length}
-use Rattle.text.proofs.LineParts.{WordTo, word_small, word_step, word_stop, word_at_space, word_at_end}
+use Rattle.text.proofs.LineParts.{WordTo}
 use Rattle.text.proofs.lines.word.Given as goal
 
 abbrev pub invariant-loop-i : goal.invariant-loop-i

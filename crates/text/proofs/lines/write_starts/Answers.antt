@@ -1,11 +1,10 @@
-use mathlib.Core.Path.{◌≡◌, refl, sym, ap, ◌∙◌}
+use mathlib.Core.Path.{refl, sym, ap, ◌∙◌}
 use mathlib.Core.List.{List}
-use Prim.Native.Nat.{ℕ, ◌+◌, ◌-◌, ◌≤◌}
+use Prim.Native.Nat.{ℕ}
 use native.Mathlib.Numerals.{add-one}
 use native.Mathlib.Omega.{arith}
 use lib.ListN.{length, length-set}
 use Rattle.text.specs.LineStarts.{starts_from}
-use Rattle.text.specs.Support.LineParts.{lines_from}
 use Rattle.text.proofs.LineParts.{no_lines, one_line_more, over_at, over_start, over_turn, over_done}
 use Rattle.text.proofs.lines.write_starts.Goals as goal
 
@@ -13,21 +12,21 @@ pub loop-at-init : goal.loop-at-init
 loop-at-init c = (omega arith, omega arith, omega arith, refl, refl)
 
 pub overflow_cast-starts : goal.overflow_cast-starts
-overflow_cast-starts c = omega (arith, c.requires.0)
+overflow_cast-starts c = omega (arith, c.requires.s_len_bound)
 
 pub offset_bounds-starts-n : goal.offset_bounds-starts-n
-offset_bounds-starts-n c = omega (arith, c.requires.0)
+offset_bounds-starts-n c = omega (arith, c.requires.s_len_bound)
 
 pub bounds-starts-n : goal.bounds-starts-n
 bounds-starts-n c =
     let e = one_line_more c.args.w c.loop-at.at c.args.s.now c.loop-at-test.true in
-    omega (arith, ap length e, c.loop-at.invariant, c.requires.1)
+    omega (arith, ap length e, c.loop-at.invariant, c.requires.s_in_bounds)
 
 pub overflow_add-n : goal.overflow_add-n
-overflow_add-n c = omega (arith, c.requires.0)
+overflow_add-n c = omega (arith, c.requires.s_len_bound)
 
 pub line-l-requires : goal.line-l-requires
-line-l-requires c = (c.requires.0, c.loop-at-test.true)
+line-l-requires c = record { s_len_bound = c.requires.s_len_bound; from_in_bounds = c.loop-at-test.true }
 
 pub overflow_add-at : goal.overflow_add-at
 overflow_add-at c = omega (arith, c.line-l.ensures.inside)
@@ -49,7 +48,7 @@ loop-at-preserved c =
       omega (arith, q.ends, q.inside),
       omega arith,
       length-set old n at ∙ v.3,
-      rw add-one (over_turn n at _ old (omega (arith, ap length e, c.requires.1)) ∙ ap (λ (l : List (List ℕ)). over_at n (starts_from at l) old) (sym e) ∙ v.4),
+      rw add-one (over_turn n at _ old (omega (arith, ap length e, c.requires.s_in_bounds)) ∙ ap (λ (l : List (List ℕ)). over_at n (starts_from at l) old) (sym e) ∙ v.4),
     )
 
 pub returns : goal.returns

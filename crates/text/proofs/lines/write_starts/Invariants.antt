@@ -1,14 +1,11 @@
 -- The loop's invariant: the buffer with the starts from `at` on written from place n on is what it will be. The measure is what is left of the bytes,
 -- and one more, since the last line may be empty. Assumes nothing.
-use mathlib.Core.Path.{◌≡◌, refl, sym, ap, ◌∙◌}
-use mathlib.Core.List.{List}
-use Prim.Native.Nat.{ℕ, ◌+◌, ◌-◌, ◌≤◌}
-use native.Mathlib.Numerals.{add-one}
-use native.Mathlib.Omega.{arith}
-use lib.ListN.{length, length-set}
+use mathlib.Core.Path.{◌≡◌}
+use Prim.Native.Nat.{◌+◌, ◌-◌, ◌≤◌}
+use lib.ListN.{length}
 use Rattle.text.specs.LineStarts.{starts_from}
 use Rattle.text.specs.Support.LineParts.{lines_from}
-use Rattle.text.proofs.LineParts.{no_lines, one_line_more, over_at, over_start, over_turn, over_done}
+use Rattle.text.proofs.LineParts.{over_at}
 use Rattle.text.proofs.lines.write_starts.Given as goal
 
 abbrev pub invariant-loop-at : goal.invariant-loop-at

@@ -2,25 +2,21 @@
 use mathlib.Core.Path.{sym, ◌∙◌}
 use Prim.Native.Nat.{◌≤◌, ◌<◌}
 use native.Mathlib.Omega.{arith}
-use borrow.Author.Rules.{rules}
 use Rattle.text.proofs.Scalars.{scalar_top, encoded_one, encoded_two, encoded_three, encoded_four}
 use Rattle.text.proofs.Lengths.{of_length_one, of_length_two, of_length_three, of_another_length}
 use Rattle.text.proofs.utf8.bytes_of.Goals as goal
 
 one : (c : goal.In-1) → c.args.code ≤ 0x7F
-one c = of_length_one c.args.code c.ranges.code.fits (sym c.requires.1 ∙ c.in-1.keys1)
+one c = of_length_one c.args.code c.ranges.code.fits (sym c.requires.1 ∙ c.in-1.is)
 
 two : (c : goal.In-2) → (0x7F < c.args.code) × (c.args.code ≤ 0x7FF)
-two c = of_length_two c.args.code c.ranges.code.fits (sym c.requires.1 ∙ c.in-2.keys2)
+two c = of_length_two c.args.code c.ranges.code.fits (sym c.requires.1 ∙ c.in-2.is)
 
 three : (c : goal.In-3) → (0x7FF < c.args.code) × (c.args.code ≤ 0xFFFF)
-three c = of_length_three c.args.code c.ranges.code.fits (sym c.requires.1 ∙ c.in-3.keys3)
+three c = of_length_three c.args.code c.ranges.code.fits (sym c.requires.1 ∙ c.in-3.is)
 
 four : (c : goal.In_default) → 0xFFFF < c.args.code
-four c =
-    let e = c.requires.1 in
-    let n = c.in_default.rest in
-    of_another_length c.args.code c.ranges.code.fits (λ h. n.0.0.1 (e ∙ h)) (λ h. n.0.1 (e ∙ h)) (λ h. n.1 (e ∙ h))
+four c = of_another_length c.args.code c.ranges.code.fits (λ h. omega (arith, c.requires.1)) (λ h. omega (arith, c.requires.1)) (λ h. omega (arith, c.requires.1))
 
 pub overflow_cast-result : goal.overflow_cast-result
 overflow_cast-result c = record { fits = omega (arith, one c) }

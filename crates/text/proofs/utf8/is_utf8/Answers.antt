@@ -1,12 +1,10 @@
-use mathlib.Core.Path.{◌≡◌, sym, ap, ◌∙◌}
-use Prim.Native.Nat.{◌-◌, ◌≤◌}
+use mathlib.Core.Path.{sym, ap, ◌∙◌}
 use native.Mathlib.Omega.{arith}
 use borrow.Author.Rules.{rules}
 use lib.Dec.{eqb}
-use lib.ListN.{length, drop}
 use Rattle.text.specs.declared.utf8.Place.{Place}
-use Rattle.text.specs.Reader.{run_from, is_utf8, start}
-use Rattle.text.proofs.Runs.{Small, room, small_code, small_step, run_more, run_done}
+use Rattle.text.specs.Reader.{is_utf8}
+use Rattle.text.proofs.Runs.{room, small_code, small_step, run_more, run_done}
 use Rattle.text.proofs.utf8.is_utf8.Goals as goal
 
 pub loop-i-init : goal.loop-i-init

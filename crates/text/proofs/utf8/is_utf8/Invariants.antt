@@ -1,13 +1,9 @@
 -- The reader so far, run over the bytes that are left, ends where it ends over all. Assumes nothing.
-use mathlib.Core.Path.{◌≡◌, sym, ap, ◌∙◌}
+use mathlib.Core.Path.{◌≡◌}
 use Prim.Native.Nat.{◌-◌, ◌≤◌}
-use native.Mathlib.Omega.{arith}
-use borrow.Author.Rules.{rules}
-use lib.Dec.{eqb}
 use lib.ListN.{length, drop}
-use Rattle.text.specs.declared.utf8.Place.{Place}
-use Rattle.text.specs.Reader.{run_from, is_utf8, start}
-use Rattle.text.proofs.Runs.{Small, room, small_code, small_step, run_more, run_done}
+use Rattle.text.specs.Reader.{run_from, start}
+use Rattle.text.proofs.Runs.{Small}
 use Rattle.text.proofs.utf8.is_utf8.Given as goal
 
 abbrev pub invariant-loop-i : goal.invariant-loop-i

@@ -1,10 +1,8 @@
 -- A return for each line of the grammar: the tests that led there cond the same line of `lead_of`. Assumes nothing.
-use mathlib.Core.Bool.{cond}
 use mathlib.Core.Path.{◌∙◌}
 use borrow.Author.Tests.{le-leb, lt-leb, eq-eqb, ne_eqb}
 use Rattle.arithmetic.specs.Tests.{within}
 use Rattle.text.specs.Reader.{lead_of}
-use borrow.Author.Rules.{rules}
 use Rattle.text.proofs.utf8.lead.Goals as goal
 
 pub returns-then-b-le127 : goal.returns-then-b-le127

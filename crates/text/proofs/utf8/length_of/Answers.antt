@@ -1,7 +1,6 @@
 -- A u32 has at most 32 leading zeros, so that no difference goes below 0. Assumes nothing.
 use mathlib.Core.Path.{refl}
 use native.Mathlib.Omega.{arith}
-use borrow.Author.Rules.{rules}
 use lib.Count.{leading_le}
 use Rattle.text.specs.Lengths.{length_by, length_of}
 use Rattle.text.proofs.utf8.length_of.Goals as goal

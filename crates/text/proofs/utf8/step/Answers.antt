@@ -1,8 +1,6 @@
 -- The two tests cond the same case of `step_of`. Assumes nothing.
-use mathlib.Core.Bool.{cond}
 use mathlib.Core.Path.{◌∙◌}
 use borrow.Author.Tests.{eq-eqb, ne_eqb}
-use borrow.Author.Rules.{rules}
 use Rattle.text.specs.Reader.{step_of}
 use Rattle.arithmetic.specs.Tests.{within}
 use Rattle.text.proofs.utf8.step.Goals as goal

@@ -1,7 +1,6 @@
 use mathlib.Core.Path.{◌≡◌, refl, sym, ap, ◌∙◌}
-use Prim.Native.Nat.{◌-◌, ◌<◌}
+use Prim.Native.Nat.{◌-◌}
 use native.Mathlib.Omega.{arith}
-use borrow.Author.Tests.{not-true, not_false}
 use borrow.Author.Rules.{rules}
 use Rattle.text.specs.Steps.{back_of, step_back}
 use Rattle.text.proofs.Walks.{back_ends_at_no_tail, back_ends_past, back_goes_on}
@@ -20,10 +19,10 @@ returns-then-s-i c = sym (back_ends_past c.args.s.now c.loop-i.i c.if-s-i.true) 
 
 pub returns-then-not-is_tail : goal.returns-then-not-is_tail
 unfolding step_back
-returns-then-not-is_tail c = sym (back_ends_at_no_tail c.args.s.now c.loop-i.i (sym c.is_tail.ensures ∙ not-true _ c.if-not-is_tail.true)) ∙ c.loop-i.invariant.1
+returns-then-not-is_tail c = sym (back_ends_at_no_tail c.args.s.now c.loop-i.i (sym c.is_tail.ensures ∙ c.if-not-is_tail.true)) ∙ c.loop-i.invariant.1
 
 pub loop-i-preserved : goal.loop-i-preserved
-loop-i-preserved c = (search rules, sym (back_goes_on c.args.s.now c.loop-i.i c.loop-i-test.true (sym c.is_tail.ensures ∙ not_false _ c.if-not-is_tail.false)) ∙ c.loop-i.invariant.1)
+loop-i-preserved c = (search rules, sym (back_goes_on c.args.s.now c.loop-i.i c.loop-i-test.true (sym c.is_tail.ensures ∙ c.if-not-is_tail.false)) ∙ c.loop-i.invariant.1)
 
 pub returns : goal.returns
 unfolding step_back back_of

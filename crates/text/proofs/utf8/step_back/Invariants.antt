@@ -1,11 +1,7 @@
 -- The walk back from here ends where the walk from the last byte of the character ends. Assumes nothing.
-use mathlib.Core.Path.{◌≡◌, refl, sym, ap, ◌∙◌}
+use mathlib.Core.Path.{◌≡◌}
 use Prim.Native.Nat.{◌-◌, ◌<◌}
-use native.Mathlib.Omega.{arith}
-use borrow.Author.Tests.{not-true, not_false}
-use borrow.Author.Rules.{rules}
-use Rattle.text.specs.Steps.{back_of, step_back}
-use Rattle.text.proofs.Walks.{back_ends_at_no_tail, back_ends_past, back_goes_on}
+use Rattle.text.specs.Steps.{back_of}
 use Rattle.text.proofs.utf8.step_back.Given as goal
 
 abbrev pub invariant-loop-i : goal.invariant-loop-i

@@ -1,10 +1,8 @@
-use mathlib.Core.Path.{◌≡◌, refl, sym, ◌∙◌}
-use Prim.Native.Nat.{◌+◌, ◌-◌, ◌≤◌, ◌<◌}
+use mathlib.Core.Path.{refl, sym, ◌∙◌}
 use native.Mathlib.Omega.{arith}
-use borrow.Author.Tests.{not-true, not_false, lt-ltb, le-ltb}
+use borrow.Author.Tests.{lt-ltb, le-ltb}
 use borrow.Author.Rules.{rules}
-use lib.ListN.{length, drop}
-use Rattle.text.specs.Steps.{is_tail, front, step_forward}
+use Rattle.text.specs.Steps.{is_tail, step_forward}
 use Rattle.text.proofs.Walks.{front_ends, front_goes_on, front_of_none}
 use Rattle.text.proofs.utf8.step_forward.Goals as goal
 
@@ -17,10 +15,10 @@ loop-i-init c = (search rules, search rules, refl)
 
 pub returns-then-not-is_tail : goal.returns-then-not-is_tail
 unfolding step_forward
-returns-then-not-is_tail c = rw (lt-ltb _ _ c.loop-i.invariant.1) (omega (arith, front_ends is_tail c.args.s.now c.loop-i.i c.loop-i-test.true (sym c.is_tail.ensures ∙ not-true _ c.if-not-is_tail.true)))
+returns-then-not-is_tail c = rw (lt-ltb _ _ c.loop-i.invariant.1) (omega (arith, front_ends is_tail c.args.s.now c.loop-i.i c.loop-i-test.true (sym c.is_tail.ensures ∙ c.if-not-is_tail.true)))
 
 pub loop-i-preserved : goal.loop-i-preserved
-loop-i-preserved c = (search rules, search rules, omega (arith, front_goes_on is_tail c.args.s.now c.loop-i.i c.loop-i-test.true (sym c.is_tail.ensures ∙ not_false _ c.if-not-is_tail.false)))
+loop-i-preserved c = (search rules, search rules, omega (arith, front_goes_on is_tail c.args.s.now c.loop-i.i c.loop-i-test.true (sym c.is_tail.ensures ∙ c.if-not-is_tail.false)))
 
 pub returns : goal.returns
 unfolding step_forward

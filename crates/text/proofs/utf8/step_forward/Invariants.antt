@@ -1,12 +1,8 @@
 -- The tails passed and the tails left are all the tails. Assumes nothing.
-use mathlib.Core.Path.{◌≡◌, refl, sym, ◌∙◌}
+use mathlib.Core.Path.{◌≡◌}
 use Prim.Native.Nat.{◌+◌, ◌-◌, ◌≤◌, ◌<◌}
-use native.Mathlib.Omega.{arith}
-use borrow.Author.Tests.{not-true, not_false, lt-ltb, le-ltb}
-use borrow.Author.Rules.{rules}
 use lib.ListN.{length, drop}
-use Rattle.text.specs.Steps.{is_tail, front, step_forward}
-use Rattle.text.proofs.Walks.{front_ends, front_goes_on, front_of_none}
+use Rattle.text.specs.Steps.{is_tail, front}
 use Rattle.text.proofs.utf8.step_forward.Given as goal
 
 abbrev pub invariant-loop-i : goal.invariant-loop-i
