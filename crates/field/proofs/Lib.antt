@@ -12,5 +12,3 @@ pub mod Parts
 pub mod Edits
 pub mod Laws
 pub mod Examples
-pub mod Lending
-pub mod LentHere

@@ -1,21 +1,16 @@
 -- The step ends at or before the caret, so it fits a byte. Assumes nothing.
-use mathlib.Core.Path.{◌≡◌, sym, ◌∙◌}
 use native.Mathlib.Omega.{arith}
-use borrow.Author.Rules.{rules}
+use mathlib.Core.Path.{sym}
 use lib.Seq.{length-take-le}
-use lib.ListN.{length, length-map}
 use Rattle.field.specs.Fields.{step_back_of}
 use Rattle.field.proofs.Ranges.{length_in_range, caret_in_range, back_is_before}
 use Rattle.field.proofs.Field.back.Goals as goal
 
-long : (c : goal.Start) → length c.args.self.bytes ≡ 64
-long c = sym (length-map c.args.self.bytes _) ∙ c.well_formed.0.1.1.1.0.1.0.1
-
 pub slice_bounds-b-end : goal.slice_bounds-b-end
-slice_bounds-b-end c = omega (arith, long c.before.before.before, length_in_range c.args.self c.requires)
+slice_bounds-b-end c = omega (arith, length_in_range c.args.self c.requires)
 
 pub slice_bounds-step_back-end : goal.slice_bounds-step_back-end
-slice_bounds-step_back-end c = sym (length-take-le c.args.self.len c.args.self.bytes (omega (arith, long c.before.before.before.before, length_in_range c.args.self c.requires)))
+slice_bounds-step_back-end c = sym (length-take-le c.args.self.len c.args.self.bytes (omega (arith, length_in_range c.args.self c.requires)))
 
 pub overflow_cast-result : goal.overflow_cast-result
 unfolding step_back_of

@@ -1,5 +1,4 @@
 -- What `cleared` leaves. Assumes nothing.
-use borrow.Author.Rules.{rules}
 use Rattle.field.specs.Fields.{shown_of}
 use Rattle.field.proofs.Field.shown.Goals as goal
 

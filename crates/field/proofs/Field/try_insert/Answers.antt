@@ -1,15 +1,13 @@
 -- A field is refused just where `sound` says that it breaks the rules. Assumes nothing.
 use mathlib.Core.Path.{sym, ap, ◌∙◌}
-use borrow.Author.Tests.{not-true, not_false}
-use borrow.Author.Rules.{rules}
 use Rattle.text.specs.Refusal.{accepted}
 use Rattle.field.specs.Fields.{edit_answer, insert_answer}
 use Rattle.field.proofs.Field.try_insert.Goals as goal
 
 pub returns-then-not-sound : goal.returns-then-not-sound
 unfolding edit_answer insert_answer
-returns-then-not-sound c = rw (sym c.sound.ensures ∙ not-true _ c.if-not-sound.true)
+returns-then-not-sound c = rw (sym c.sound.ensures ∙ c.if-not-sound.true)
 
 pub returns : goal.returns
 unfolding edit_answer insert_answer
-returns c = rw (sym c.sound.ensures ∙ not_false _ c.if-not-sound.false) (ap accepted c.insert.ensures)
+returns c = rw (sym c.sound.ensures ∙ c.if-not-sound.false) (ap accepted c.insert.ensures)

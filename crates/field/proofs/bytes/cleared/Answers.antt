@@ -1,9 +1,7 @@
-use mathlib.Core.Path.{◌≡◌, ◌∙◌}
-use Prim.Native.Nat.{max, ◌-◌, ◌≤◌}
+use mathlib.Core.Path.{◌∙◌}
 use native.Mathlib.Omega.{arith}
 use borrow.Author.Rules.{rules}
-use lib.ListN.{length}
-use Rattle.field.proofs.Clear.{cleared_to, clear_none, clear_turn, clear_done}
+use Rattle.field.proofs.Clear.{clear_none, clear_turn, clear_done}
 use Rattle.field.proofs.bytes.cleared.Goals as goal
 
 pub loop-i-init : goal.loop-i-init

@@ -1,10 +1,8 @@
 -- What is cleared so far is a paste of zeros. Assumes nothing.
-use mathlib.Core.Path.{◌≡◌, ◌∙◌}
+use mathlib.Core.Path.{◌≡◌}
 use Prim.Native.Nat.{max, ◌-◌, ◌≤◌}
-use native.Mathlib.Omega.{arith}
-use borrow.Author.Rules.{rules}
 use lib.ListN.{length}
-use Rattle.field.proofs.Clear.{cleared_to, clear_none, clear_turn, clear_done}
+use Rattle.field.proofs.Clear.{cleared_to}
 use Rattle.field.proofs.bytes.cleared.Given as goal
 
 abbrev pub invariant-loop-i : goal.invariant-loop-i

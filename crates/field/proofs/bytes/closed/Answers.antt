@@ -1,9 +1,9 @@
 use mathlib.Core.Path.{◌≡◌, ap, ◌∙◌}
-use Prim.Native.Nat.{ℕ, ◌-◌, ◌≤◌}
+use Prim.Native.Nat.{ℕ, ◌-◌}
 use native.Mathlib.Omega.{arith}
 use borrow.Author.Rules.{rules}
 use lib.Seq.{paste, paste-zero}
-use lib.ListN.{length, drop}
+use lib.ListN.{drop}
 use Rattle.field.proofs.Moves.{down_turn}
 use Rattle.field.proofs.bytes.closed.Goals as goal
 

@@ -1,9 +1,9 @@
-use mathlib.Core.Path.{◌≡◌, ap, ◌∙◌}
-use Prim.Native.Nat.{ℕ, ◌+◌, ◌-◌, ◌≤◌}
+use mathlib.Core.Path.{ap, ◌∙◌}
+use Prim.Native.Nat.{ℕ, ◌+◌, ◌-◌}
 use native.Mathlib.Omega.{arith}
 use borrow.Author.Rules.{rules}
 use lib.Seq.{paste}
-use lib.ListN.{length, drop}
+use lib.ListN.{drop}
 use Rattle.field.proofs.Moves.{up_turn, up_none}
 use Rattle.field.proofs.bytes.opened.Goals as goal
 

@@ -1,11 +1,8 @@
 -- From the end: what is moved so far is a paste, one byte longer each turn. Assumes nothing.
-use mathlib.Core.Path.{◌≡◌, ap, ◌∙◌}
-use Prim.Native.Nat.{ℕ, ◌+◌, ◌-◌, ◌≤◌}
-use native.Mathlib.Omega.{arith}
-use borrow.Author.Rules.{rules}
+use mathlib.Core.Path.{◌≡◌}
+use Prim.Native.Nat.{◌+◌, ◌-◌, ◌≤◌}
 use lib.Seq.{paste}
 use lib.ListN.{length, drop}
-use Rattle.field.proofs.Moves.{up_turn, up_none}
 use Rattle.field.proofs.bytes.opened.Given as goal
 
 abbrev pub invariant-loop-i : goal.invariant-loop-i

@@ -1,9 +1,8 @@
 use mathlib.Core.Path.{◌≡◌, ap, ◌∙◌}
-use Prim.Native.Nat.{ℕ, ◌-◌, ◌≤◌}
+use Prim.Native.Nat.{ℕ}
 use native.Mathlib.Omega.{arith}
 use borrow.Author.Rules.{rules}
 use lib.Seq.{paste, paste-zero}
-use lib.ListN.{length}
 use Rattle.field.proofs.Moves.{place_turn}
 use Rattle.field.proofs.bytes.placed.Goals as goal
 

@@ -1,11 +1,8 @@
 -- What is placed so far is a paste, one byte longer each turn. Assumes nothing.
-use mathlib.Core.Path.{◌≡◌, ap, ◌∙◌}
-use Prim.Native.Nat.{ℕ, ◌-◌, ◌≤◌}
-use native.Mathlib.Omega.{arith}
-use borrow.Author.Rules.{rules}
-use lib.Seq.{paste, paste-zero}
+use mathlib.Core.Path.{◌≡◌}
+use Prim.Native.Nat.{◌-◌, ◌≤◌}
+use lib.Seq.{paste}
 use lib.ListN.{length}
-use Rattle.field.proofs.Moves.{place_turn}
 use Rattle.field.proofs.bytes.placed.Given as goal
 
 abbrev pub invariant-loop-j : goal.invariant-loop-j

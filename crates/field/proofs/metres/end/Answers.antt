@@ -1,9 +1,6 @@
 use mathlib.Core.Path.{◌≡◌, sym, ap, ◌∙◌}
-use Prim.Native.Nat.{◌≤◌}
 use native.Mathlib.Omega.{arith}
-use borrow.Author.Tests.{not-true, not_false}
 use borrow.Author.Rules.{rules}
-use lib.ListN.{length, take}
 use lib.Seq.{take-length}
 use Rattle.text.specs.Steps.{front}
 use Rattle.field.specs.Metres.{skipped_back}
@@ -15,11 +12,11 @@ loop-i-init c = (search rules, ap skipped_back (take-length c.args.s.now))
 
 pub returns-then-not-is_space : goal.returns-then-not-is_space
 returns-then-not-is_space c = let s = c.args.s.now in let l = c.loop-i in
-    (l.invariant.0, sym (walk_ends s l.i c.loop-i-test.true l.invariant.0 (sym c.is_space.ensures ∙ not-true _ c.if-not-is_space.true)) ∙ l.invariant.1)
+    (l.invariant.0, sym (walk_ends s l.i c.loop-i-test.true l.invariant.0 (sym c.is_space.ensures ∙ c.if-not-is_space.true)) ∙ l.invariant.1)
 
 pub loop-i-preserved : goal.loop-i-preserved
 loop-i-preserved c = let s = c.args.s.now in let l = c.loop-i in
-    (search rules, sym (walk_goes_on s l.i c.loop-i-test.true l.invariant.0 (sym c.is_space.ensures ∙ not_false _ c.if-not-is_space.false)) ∙ l.invariant.1)
+    (search rules, sym (walk_goes_on s l.i c.loop-i-test.true l.invariant.0 (sym c.is_space.ensures ∙ c.if-not-is_space.false)) ∙ l.invariant.1)
 
 pub returns : goal.returns
 unfolding front

@@ -2,7 +2,6 @@
 use mathlib.Core.Bool.{true, false, ◌&&◌}
 use mathlib.Core.Path.{sym, ap, ap₂, ◌∙◌}
 use Prim.Native.Nat.{ℕ, ◌+◌, ◌*◌}
-use borrow.Author.Rules.{rules}
 use Rattle.text.specs.Refusal.{accepted}
 use Rattle.field.proofs.Reading.{nothing_behind, two_behind, three_behind, another_behind}
 use Rattle.field.proofs.metres.fraction.Goals as goal

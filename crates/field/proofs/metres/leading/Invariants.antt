@@ -1,12 +1,8 @@
 -- Those passed and those left at the front are all of them. Assumes nothing.
 use mathlib.Core.Path.{◌≡◌}
 use Prim.Native.Nat.{◌+◌, ◌-◌, ◌≤◌}
-use native.Mathlib.Omega.{arith}
-use borrow.Author.Tests.{not-true, not_false}
-use borrow.Author.Rules.{rules}
 use lib.ListN.{length, drop}
 use Rattle.arithmetic.specs.Tests.{within}
-use Rattle.text.proofs.Walks.{front_ends, front_goes_on, front_of_none}
 use Rattle.text.specs.Steps.{front}
 use Rattle.field.proofs.metres.leading.Given as goal
 
