@@ -120,7 +120,7 @@ kids_once s p pv [] e n j = omega arith
 kids_once s p pv (c ∷ cs) e n j =
     let k = first_kid s p pv c cs e in
     let alone : occ c cs ≡ 0 = zero_cases (occ c cs) (λ z. z)
-    (λ z. let h : 0 < occ pv (c ∷ cs) = rw k.is_prev at (kids_prev s p c cs k.others c z) in absurd (omega arith)) in
+    (λ z. let h : 0 < occ pv (c ∷ cs) = subst (λ (n : ℕ). 0 < occ n (c ∷ cs)) k.is_prev (kids_prev s p c cs k.others c z) in absurd (omega arith)) in
     let r = kids_once s p c cs k.others alone j in
     eq_cases c j (λ q _ _. let z : occ j cs ≡ 0 = rw q at alone in let d = δ-le c j in omega arith) (λ q _ d. omega arith)
 

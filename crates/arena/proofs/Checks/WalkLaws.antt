@@ -1,7 +1,7 @@
 -- The walks of the link check: what is left of a walk from here, and of what it checks, gives the whole. Assumes nothing.
 use Rattle.arithmetic.proofs.LoopLaws.{zero_read}
 use Rattle.std.proofs.Common.{◌≡◌, ℕ, suc, ◌+◌, ◌-◌, ◌<◌, ◌≤◌, Bool, true, false, ◌&&◌, List, [], ◌∷◌, ◌++◌, length, get_or, take, set, replicate, sym, refl, ap, ◌∙◌, arith, length-set, length-take-le, take_all, get_or-set_other, take-suc, get_or-set_same, take-take, le-ltb, lt-ltb}
-use mathlib.Core.Bool.{and_assoc, and_true}
+use mathlib.Core.Bool.{and_assoc, and-true}
 use lib.ListN.{length-replicate}
 use lib.Seq.{take-append-le}
 use Rattle.arithmetic.specs.Tests.{same, δ, occ, head_or, final_or, all}
@@ -87,7 +87,7 @@ pub all_one_further : (p : ℕ → Bool) (l : List ℕ) (m : ℕ) → m < length
 all_one_further p l m h = let e : m + 1 ≡ suc m = omega arith in ap (λ (n : ℕ). all p (take n l)) e ∙ ap (all p) (take-suc l m 0 h) ∙ go (take m l)
   where
     go : (k : List ℕ) → all p (k ++ (get_or l m 0 ∷ [])) ≡ (all p k && p (get_or l m 0))
-    go [] = and_true (p (get_or l m 0))
+    go [] = and-true (p (get_or l m 0))
     go (x ∷ k) = ap (λ (b : Bool). p x && b) (go k) ∙ sym (and_assoc (p x) (all p k) (p (get_or l m 0)))
 
 -- ---- the walk from a slot
@@ -105,7 +105,7 @@ first_is_added start = refl
 first_checked : (s : Slots) (start : ℕ)
     → (true && rest s start (at s start).last_child NIL 128 (at s start).first_child) ≡ all (node_well s) (take (0 + 1) (listed (order_of (set (replicate 128 0) 0 start) 1)))
 unfolding listed
-first_checked s start = rest_whole s start ∙ sym (and_true (node_well s start))
+first_checked s start = rest_whole s start ∙ sym (and-true (node_well s start))
 
 module _ (s : Slots) (start : ℕ) where
   pub walk_start : start < 128 → Walk s start (order_of (set (replicate 128 0) 0 start) 1) 0 start (at s start).first_child (at s start).last_child NIL 128 true
@@ -183,7 +183,7 @@ module _ (s : Slots) (from : ℕ) where
 
   free_end : (k c : ℕ) → chain k s c ≡ [] → same c NIL ≡ free_rest s k c
   unfolding free_rest free_well
-  free_end k c e = rw e (sym (and_true (same c NIL)))
+  free_end k c e = rw e (sym (and-true (same c NIL)))
 
   module _ (o : Order) (c : ℕ) (i : Chained s from o c) where
     left : (o.count < 128) → (128 - o.count ≡ 0 → ⊥)

@@ -86,10 +86,19 @@ module _ {X : Type 0} where
   set_self p nil z = refl
   set_self p (node i g x cs sib) z =
       eq_cases i p
-      (λ e s d. rw (s, kids_none p sib (omega arith), app_nil cs, set_none p cs sib (omega arith)))
+      (λ e s d.
+      let q : kids p (node i g x cs sib) ≡ cs = rw (s, kids_none p sib (omega arith)) (app_nil cs) in
+      let m : set_kids p cs (node i g x cs sib) ≡ node i g x cs sib = rw (s, set_none p cs sib (omega arith)) in
+      ap (λ k. set_kids p k (node i g x cs sib)) q ∙ m)
       λ e s d. zero_cases (cnt p cs)
-      (λ c. rw (s, kids_none p cs c, set_none p (kids p sib) cs c, set_self p sib (omega arith)))
-      (λ c. rw (s, kids_none p sib (omega arith), app_nil (kids p cs), set_self p cs (omega arith), set_none p (kids p cs) sib (omega arith)))
+      (λ c.
+      let q : kids p (node i g x cs sib) ≡ kids p sib = rw (s, kids_none p cs c) in
+      let m : set_kids p (kids p sib) (node i g x cs sib) ≡ node i g x cs sib = rw (s, set_none p (kids p sib) cs c, set_self p sib (omega arith)) in
+      ap (λ k. set_kids p k (node i g x cs sib)) q ∙ m)
+      (λ c.
+      let q : kids p (node i g x cs sib) ≡ kids p cs = rw (s, kids_none p sib (omega arith)) (app_nil (kids p cs)) in
+      let m : set_kids p (kids p cs) (node i g x cs sib) ≡ node i g x cs sib = rw (s, set_self p cs (omega arith), set_none p (kids p cs) sib (omega arith)) in
+      ap (λ k. set_kids p k (node i g x cs sib)) q ∙ m)
 
   pub wt_set : (w : ℕ → ℕ → X → ℕ) (p : ℕ) (k f : Forest X) → cnt p f ≡ 1 → wt w (set_kids p k f) ≡ wt w (set_kids p nil f) + wt w k
   wt_set w p k nil z = absurd (omega arith)
@@ -168,15 +177,20 @@ module _ {X : Type 0} where
       (λ e' s' d'.
       let q : kids p (node y g x cs sib) ≡ cs = rw (s', kids_none p sib (omega arith)) (app_nil cs) in
       let k' : 0 < cnt i cs = rw q at k in
-      rw (q, s, s', cut_none i sib (omega arith), set_none p (cut i cs) sib (omega arith)))
+      let m : cut i (node y g x cs sib) ≡ set_kids p (cut i cs) (node y g x cs sib) = rw (s, s', cut_none i sib (omega arith), set_none p (cut i cs) sib (omega arith)) in
+      m ∙ ap (λ z. set_kids p (cut i z) (node y g x cs sib)) (sym q))
       λ e' s' d'. zero_cases (cnt p cs)
       (λ c.
       let q : kids p (node y g x cs sib) ≡ kids p sib = rw (s', kids_none p cs c) in
       let k' : 0 < cnt i (kids p sib) = rw q at k in
       let l = cnt_kids_le i p sib (omega arith) in
-      rw (q, s, s', cut_none i cs (omega arith), set_none p (cut i (kids p sib)) cs c, cut_set i p sib (omega arith) (omega arith) (omega arith) k'))
+      let m : cut i (node y g x cs sib) ≡ set_kids p (cut i (kids p sib)) (node y g x cs sib) =
+      rw (s, s', cut_none i cs (omega arith), set_none p (cut i (kids p sib)) cs c, cut_set i p sib (omega arith) (omega arith) (omega arith) k') in
+      m ∙ ap (λ z. set_kids p (cut i z) (node y g x cs sib)) (sym q))
       (λ c.
       let q : kids p (node y g x cs sib) ≡ kids p cs = rw (s', kids_none p sib (omega arith)) (app_nil (kids p cs)) in
       let k' : 0 < cnt i (kids p cs) = rw q at k in
       let l = cnt_kids_le i p cs (omega arith) in
-      rw (q, s, s', cut_none i sib (omega arith), set_none p (cut i (kids p cs)) sib (omega arith), cut_set i p cs (omega arith) (omega arith) (omega arith) k'))
+      let m : cut i (node y g x cs sib) ≡ set_kids p (cut i (kids p cs)) (node y g x cs sib) =
+      rw (s, s', cut_none i sib (omega arith), set_none p (cut i (kids p cs)) sib (omega arith), cut_set i p cs (omega arith) (omega arith) (omega arith) k') in
+      m ∙ ap (λ z. set_kids p (cut i z) (node y g x cs sib)) (sym q))

@@ -1,7 +1,6 @@
-use Rattle.std.proofs.Common.{◌≡◌, ◌-◌, ◌≤◌, not, length, drop, refl, ap, ◌∙◌, arith, rules}
+use Rattle.std.proofs.Common.{not, refl, ap, ◌∙◌, arith, rules}
 use Rattle.field.specs.declared.Field.{Field}
 use Rattle.arena.specs.Fields.{vacant}
-use Rattle.arithmetic.specs.Tests.{all}
 use Rattle.arena.proofs.Owners.Places.{no_field}
 use Rattle.arithmetic.proofs.LoopLaws.{all_more, all_stop, all_done}
 use Rattle.arena.proofs.fields.all_taken.Goals as goal

@@ -1,10 +1,8 @@
 -- The fields from here on are taken just where all are. Assumes nothing.
-use Rattle.std.proofs.Common.{◌≡◌, ◌-◌, ◌≤◌, not, length, drop, refl, ap, ◌∙◌, arith, rules}
+use Rattle.std.proofs.Common.{◌≡◌, ◌-◌, ◌≤◌, not, length, drop}
 use Rattle.field.specs.declared.Field.{Field}
 use Rattle.arena.specs.Fields.{vacant}
 use Rattle.arithmetic.specs.Tests.{all}
-use Rattle.arena.proofs.Owners.Places.{no_field}
-use Rattle.arithmetic.proofs.LoopLaws.{all_more, all_stop, all_done}
 use Rattle.arena.proofs.fields.all_taken.Given as goal
 
 abbrev pub invariant-loop-i : goal.invariant-loop-i

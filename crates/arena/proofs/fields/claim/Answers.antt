@@ -1,6 +1,6 @@
-use Rattle.std.proofs.Common.{◌≡◌, ◌-◌, ◌≤◌, ◌++◌, length, take, drop, refl, ◌∙◌, arith, rules}
+use Rattle.std.proofs.Common.{refl, ◌∙◌, arith, rules}
 use Rattle.field.specs.declared.Field.{Field}
-use Rattle.arena.specs.Fields.{vacant, change_first, claimed}
+use Rattle.arena.specs.Fields.{vacant, claimed}
 use Rattle.field.specs.Fields.{own_field}
 use Rattle.arena.proofs.Owners.Places.{no_field, change_goes_on, change_is_here, nothing_changes}
 use Rattle.arena.proofs.fields.claim.Goals as goal

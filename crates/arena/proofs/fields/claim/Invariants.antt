@@ -1,9 +1,8 @@
 -- What stands before here is as it was, and the first free one is sought from here on. Assumes nothing.
-use Rattle.std.proofs.Common.{◌≡◌, ◌-◌, ◌≤◌, ◌++◌, length, take, drop, refl, ◌∙◌, arith, rules}
+use Rattle.std.proofs.Common.{◌≡◌, ◌-◌, ◌≤◌, ◌++◌, length, take, drop}
 use Rattle.field.specs.declared.Field.{Field}
-use Rattle.arena.specs.Fields.{vacant, change_first, claimed}
+use Rattle.arena.specs.Fields.{vacant, change_first}
 use Rattle.field.specs.Fields.{own_field}
-use Rattle.arena.proofs.Owners.Places.{no_field, change_goes_on, change_is_here, nothing_changes}
 use Rattle.arena.proofs.fields.claim.Given as goal
 
 abbrev pub invariant-loop-i : goal.invariant-loop-i

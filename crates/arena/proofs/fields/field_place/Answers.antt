@@ -1,6 +1,6 @@
-use Rattle.std.proofs.Common.{◌≡◌, ◌-◌, ◌≤◌, length, drop, refl, ap, ◌∙◌, arith, rules}
+use Rattle.std.proofs.Common.{refl, ap, ◌∙◌, arith, rules}
 use Rattle.arena.specs.Fields.{owns}
-use Rattle.arena.specs.Support.Places.{place_from, place_of, field_at}
+use Rattle.arena.specs.Support.Places.{place_of, field_at}
 use Rattle.arena.proofs.Owners.Places.{no_field, place_goes_on, place_is_here, place_is_nowhere, the_place_has_the_field}
 use Rattle.arena.proofs.fields.field_place.Goals as goal
 

@@ -1,5 +1,5 @@
 use Rattle.std.proofs.Common.{◌≡◌, ◌-◌, ◌≤◌, length, drop, refl, ◌∙◌, arith, rules}
-use borrow.Author.Tests.{not-true, not_false}
+use borrow.Author.Tests.{not-true, not-false}
 use Rattle.field.specs.Fields.{field_ok}
 use Rattle.arithmetic.specs.Tests.{all}
 use Rattle.arena.proofs.Owners.Places.{no_field}
@@ -10,10 +10,10 @@ pub loop-i-init : goal.loop-i-init
 loop-i-init c = (search rules, search rules, refl)
 
 pub returns-then-not-sound : goal.returns-then-not-sound
-returns-then-not-sound c = all_stop field_ok c.args.fields c.loop-i.i no_field (omega arith) c.sound.ensures (not-true _ c.if-not-sound.true) ∙ c.loop-i.invariant.2
+returns-then-not-sound c = all_stop field_ok c.args.fields c.loop-i.i no_field (omega arith) c.sound.ensures c.if-not-sound.true ∙ c.loop-i.invariant.2
 
 pub loop-i-preserved : goal.loop-i-preserved
-loop-i-preserved c = (search rules, search rules, all_more field_ok c.args.fields c.loop-i.i no_field (omega arith) c.sound.ensures (not_false _ c.if-not-sound.false) ∙ c.loop-i.invariant.2)
+loop-i-preserved c = (search rules, search rules, all_more field_ok c.args.fields c.loop-i.i no_field (omega arith) c.sound.ensures c.if-not-sound.false ∙ c.loop-i.invariant.2)
 
 pub returns : goal.returns
 returns c = all_done field_ok c.args.fields c.loop-i.i (omega arith) ∙ c.loop-i.invariant.2

@@ -1,6 +1,6 @@
 -- The fields from here on pass just where all do. Assumes nothing.
 use Rattle.std.proofs.Common.{◌≡◌, ◌-◌, ◌≤◌, length, drop, refl, ◌∙◌, arith, rules}
-use borrow.Author.Tests.{not-true, not_false}
+use borrow.Author.Tests.{not-true, not-false}
 use Rattle.field.specs.Fields.{field_ok}
 use Rattle.arithmetic.specs.Tests.{all}
 use Rattle.arena.proofs.Owners.Places.{no_field}

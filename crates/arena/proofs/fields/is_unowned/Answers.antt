@@ -1,8 +1,5 @@
-use Rattle.arena.specs.Rules.{lone}
-use Rattle.std.proofs.Common.{◌≡◌, ◌-◌, not, length, drop, refl, ap, ◌∙◌, arith, rules}
-use Rattle.field.specs.declared.MaybeId.TheVariants.{Present}
+use Rattle.std.proofs.Common.{not, refl, ap, ◌∙◌, arith, rules}
 use Rattle.field.specs.declared.Field.{Field}
-use Rattle.arena.specs.Fields.{owns}
 use Rattle.arena.specs.Slots.{is_id}
 use Rattle.arena.proofs.Owners.Places.{no_field}
 use Rattle.arithmetic.proofs.LoopLaws.{all_more, all_stop, all_done}

@@ -1,12 +1,7 @@
 -- The fields from here on pass just where all from the given place do. Assumes nothing.
 use Rattle.arena.specs.Rules.{lone}
-use Rattle.std.proofs.Common.{◌≡◌, ◌-◌, not, length, drop, refl, ap, ◌∙◌, arith, rules}
+use Rattle.std.proofs.Common.{◌≡◌, ◌-◌, length, drop}
 use Rattle.field.specs.declared.MaybeId.TheVariants.{Present}
-use Rattle.field.specs.declared.Field.{Field}
-use Rattle.arena.specs.Fields.{owns}
-use Rattle.arena.specs.Slots.{is_id}
-use Rattle.arena.proofs.Owners.Places.{no_field}
-use Rattle.arithmetic.proofs.LoopLaws.{all_more, all_stop, all_done}
 use Rattle.arena.proofs.fields.is_unowned.Given as goal
 
 abbrev pub invariant-loop-i : goal.invariant-loop-i

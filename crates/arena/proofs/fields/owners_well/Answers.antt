@@ -1,6 +1,4 @@
-use Rattle.std.proofs.Common.{◌≡◌, ◌-◌, ◌≤◌, length, drop, refl, ◌∙◌, arith, rules}
-use borrow.Author.Tests.{not-true, not_false}
-use Rattle.arena.specs.Rules.{owners_well}
+use Rattle.std.proofs.Common.{refl, ◌∙◌, arith, rules}
 use Rattle.arena.proofs.Owners.Places.{no_field, owners_go_on, owners_stop, owners_done}
 use Rattle.arena.proofs.fields.owners_well.Goals as goal
 
@@ -8,10 +6,10 @@ pub loop-i-init : goal.loop-i-init
 loop-i-init c = (search rules, search rules, refl)
 
 pub returns-then-not-is_lone : goal.returns-then-not-is_lone
-returns-then-not-is_lone c = owners_stop c.args.fields c.loop-i.i no_field (omega arith) c.is_lone.ensures (not-true _ c.if-not-is_lone.true) ∙ c.loop-i.invariant.2
+returns-then-not-is_lone c = owners_stop c.args.fields c.loop-i.i no_field (omega arith) c.is_lone.ensures c.if-not-is_lone.true ∙ c.loop-i.invariant.2
 
 pub loop-i-preserved : goal.loop-i-preserved
-loop-i-preserved c = (search rules, search rules, owners_go_on c.args.fields c.loop-i.i no_field (omega arith) c.is_lone.ensures (not_false _ c.if-not-is_lone.false) ∙ c.loop-i.invariant.2)
+loop-i-preserved c = (search rules, search rules, owners_go_on c.args.fields c.loop-i.i no_field (omega arith) c.is_lone.ensures c.if-not-is_lone.false ∙ c.loop-i.invariant.2)
 
 pub returns : goal.returns
 returns c = owners_done c.args.fields c.loop-i.i (omega arith) ∙ c.loop-i.invariant.2

@@ -1,8 +1,6 @@
 -- Owners from here on are apart just where all are. Assumes nothing.
-use Rattle.std.proofs.Common.{◌≡◌, ◌-◌, ◌≤◌, length, drop, refl, ◌∙◌, arith, rules}
-use borrow.Author.Tests.{not-true, not_false}
+use Rattle.std.proofs.Common.{◌≡◌, ◌-◌, ◌≤◌, length, drop}
 use Rattle.arena.specs.Rules.{owners_well}
-use Rattle.arena.proofs.Owners.Places.{no_field, owners_go_on, owners_stop, owners_done}
 use Rattle.arena.proofs.fields.owners_well.Given as goal
 
 abbrev pub invariant-loop-i : goal.invariant-loop-i

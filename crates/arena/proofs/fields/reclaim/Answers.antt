@@ -1,8 +1,6 @@
-use Rattle.std.proofs.Common.{◌≡◌, ◌-◌, ◌≤◌, cond, length, arith, rules}
-use Rattle.field.specs.Fields.{empty_field}
-use Rattle.field.specs.declared.Field.{Field}
-use Rattle.arena.specs.Fields.{owner_dead, reclaimed}
-use Rattle.arithmetic.proofs.LoopLaws.{map_to, each_none, each_turn, each_done}
+use Rattle.std.proofs.Common.{arith, rules}
+use Rattle.arena.specs.Fields.{reclaimed}
+use Rattle.arithmetic.proofs.LoopLaws.{each_none, each_turn, each_done}
 use Rattle.arena.proofs.fields.reclaim.Goals as goal
 
 pub loop-i-init : goal.loop-i-init

@@ -1,9 +1,9 @@
 -- The fields before here are cleared, and the others are as they were. Assumes nothing.
-use Rattle.std.proofs.Common.{◌≡◌, ◌-◌, ◌≤◌, cond, length, arith, rules}
+use Rattle.std.proofs.Common.{◌≡◌, ◌-◌, ◌≤◌, cond, length}
 use Rattle.field.specs.Fields.{empty_field}
 use Rattle.field.specs.declared.Field.{Field}
-use Rattle.arena.specs.Fields.{owner_dead, reclaimed}
-use Rattle.arithmetic.proofs.LoopLaws.{map_to, each_none, each_turn, each_done}
+use Rattle.arena.specs.Fields.{owner_dead}
+use Rattle.arithmetic.proofs.LoopLaws.{map_to}
 use Rattle.arena.proofs.fields.reclaim.Given as goal
 
 abbrev pub invariant-loop-i : goal.invariant-loop-i

@@ -1,8 +1,6 @@
 use Rattle.arena.proofs.Checks.ListLaws.{freed_more, freed_done}
 use Rattle.arena.specs.Support.Lists.{listed}
-use Rattle.arena.specs.Slots.{freed}
-use Rattle.arithmetic.specs.Tests.{final_or}
-use Rattle.std.proofs.Common.{◌≡◌, ◌-◌, ◌<◌, ◌≤◌, length, drop, refl, ◌∙◌, arith, rules}
+use Rattle.std.proofs.Common.{◌<◌, ◌≤◌, length, refl, ◌∙◌, arith, rules}
 use Rattle.arena.proofs.links.free_listed.Goals as goal
 
 pub loop-k-init : goal.loop-k-init

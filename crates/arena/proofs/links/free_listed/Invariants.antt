@@ -1,9 +1,8 @@
 -- What is left of the list frees the rest. Assumes nothing.
-use Rattle.arena.proofs.Checks.ListLaws.{freed_more, freed_done}
 use Rattle.arena.specs.Support.Lists.{listed}
 use Rattle.arena.specs.Slots.{freed}
 use Rattle.arithmetic.specs.Tests.{final_or}
-use Rattle.std.proofs.Common.{◌≡◌, ◌-◌, ◌<◌, ◌≤◌, length, drop, refl, ◌∙◌, arith, rules}
+use Rattle.std.proofs.Common.{◌≡◌, ◌-◌, ◌≤◌, drop}
 use Rattle.arena.proofs.links.free_listed.Given as goal
 
 abbrev pub invariant-loop-k : goal.invariant-loop-k

@@ -1,5 +1,5 @@
 -- The slot read, freed and put back. Assumes nothing.
-use Rattle.std.proofs.Common.{refl, rules}
+use Rattle.std.proofs.Common.{refl}
 use Rattle.arena.proofs.links.free_one.Goals as goal
 
 pub returns : goal.returns

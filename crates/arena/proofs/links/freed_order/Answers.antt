@@ -1,5 +1,5 @@
 -- The walk from none, over the slots' links, and what is listed is the first 128 of the order. Assumes nothing.
-use Rattle.std.proofs.Common.{ℕ, List, ap, ◌∙◌, rules}
+use Rattle.std.proofs.Common.{ℕ, List, ap, ◌∙◌}
 use Rattle.arena.specs.Support.Lists.{order_of, added_all, back_order, walked}
 use Rattle.arena.specs.declared.links.Order.{Order}
 use Rattle.arena.proofs.Checks.ListLaws.{listed_by_a_walk}

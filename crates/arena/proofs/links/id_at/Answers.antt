@@ -1,6 +1,6 @@
 -- A read past the array gives the slot of zeros. Assumes nothing.
 use lib.ListN.{get_or-eq_default}
-use Rattle.std.proofs.Common.{sym, refl, ap, arith, rules}
+use Rattle.std.proofs.Common.{sym, refl, ap, arith}
 use Rattle.arena.specs.declared.Slot.{Slot}
 use Rattle.arena.specs.Slots.{at, no_slot}
 use Rattle.field.specs.declared.NodeId.{NodeId}

@@ -1,7 +1,6 @@
 -- The definition's tests, on the slot that was read. Assumes nothing.
 use Rattle.arithmetic.specs.Tests.{same}
 use Rattle.arena.specs.Slots.{is_live}
-use Rattle.std.proofs.Common.{rules}
 use Rattle.arena.proofs.links.is_live.Goals as goal
 
 pub returns : goal.returns

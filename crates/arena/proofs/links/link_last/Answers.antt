@@ -1,5 +1,5 @@
 -- Each branch is its side of the definition's test. Assumes nothing.
-use Rattle.std.proofs.Common.{rules, eq-eqb, ne_eqb}
+use Rattle.std.proofs.Common.{eq-eqb, ne_eqb}
 use Rattle.arithmetic.specs.Tests.{same}
 use Rattle.arena.specs.Slots.{link_last, link_after}
 use Rattle.arena.proofs.links.link_last.Goals as goal

@@ -1,10 +1,8 @@
-use Rattle.std.proofs.Common.{◌≡◌, ℕ, ◌-◌, ◌<◌, ◌≤◌, length, get_or, refl, ◌∙◌, arith, length-set, rules, below_none}
+use Rattle.std.proofs.Common.{◌≡◌, ℕ, length, refl, ◌∙◌, arith, length-set, rules, below_none}
 use Rattle.arithmetic.proofs.Sums.{filled_one_further}
 use Rattle.arena.specs.Slots.{at}
 use Rattle.arena.specs.declared.Slot.{Slot}
 use Rattle.arena.proofs.Checks.ListLaws.{every_link}
-use Rattle.arena.proofs.links.links_back.Reads as reads
-use Rattle.arena.proofs.links.links_back.Lts as lts
 use Rattle.arena.proofs.links.links_back.Goals as goal
 
 pub loop-i-init : goal.loop-i-init

@@ -1,11 +1,6 @@
 -- The links are stored one by one. The loop's invariant: the places passed hold theirs. Assumes nothing.
-use Rattle.std.proofs.Common.{◌≡◌, ℕ, ◌-◌, ◌<◌, ◌≤◌, length, get_or, refl, ◌∙◌, arith, length-set, rules, below_none}
-use Rattle.arithmetic.proofs.Sums.{filled_one_further}
+use Rattle.std.proofs.Common.{◌≡◌, ℕ, ◌-◌, ◌<◌, ◌≤◌, length, get_or}
 use Rattle.arena.specs.Slots.{at}
-use Rattle.arena.specs.declared.Slot.{Slot}
-use Rattle.arena.proofs.Checks.ListLaws.{every_link}
-use Rattle.arena.proofs.links.links_back.Reads as reads
-use Rattle.arena.proofs.links.links_back.Lts as lts
 use Rattle.arena.proofs.links.links_back.Given as goal
 
 abbrev pub invariant-loop-i : goal.invariant-loop-i

@@ -1,6 +1,5 @@
 -- The slot read, with one link changed, is put back. Assumes nothing.
 use Rattle.arena.specs.Slots.{change}
-use Rattle.std.proofs.Common.{rules}
 use Rattle.arena.proofs.links.set_first.Goals as goal
 
 pub returns : goal.returns

@@ -1,8 +1,12 @@
 -- The read itself below 128, the default past it. Assumes nothing.
 use Rattle.arena.specs.Slots.{at}
-use Rattle.std.proofs.Common.{◌≡◌, ◌≤◌, length, sym, arith, rules}
+use Rattle.std.proofs.Common.{◌≡◌, ◌≤◌, length, sym, refl, arith, rules}
 use lib.ListN.{get_or-eq_default}
 use Rattle.arena.proofs.links.slot_at.Goals as goal
+
+pub returns-then-i-lt128 : goal.returns-then-i-lt128
+unfolding at
+returns-then-i-lt128 c = refl
 
 pub returns : goal.returns
 unfolding at

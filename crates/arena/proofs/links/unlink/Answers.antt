@@ -1,6 +1,5 @@
 -- The two halves, one after the other, are the definition. Assumes nothing.
 use Rattle.arena.specs.Slots.{unlink, unlink_from}
-use Rattle.std.proofs.Common.{rules}
 use Rattle.arena.proofs.links.unlink.Goals as goal
 
 pub returns : goal.returns

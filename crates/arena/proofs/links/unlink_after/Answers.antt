@@ -1,5 +1,5 @@
 -- Each branch is its side of the test. Assumes nothing.
-use Rattle.std.proofs.Common.{rules, eq-eqb, ne_eqb}
+use Rattle.std.proofs.Common.{eq-eqb, ne_eqb}
 use Rattle.arithmetic.specs.Tests.{same}
 use Rattle.arena.proofs.links.unlink_after.Goals as goal
 

@@ -1,9 +1,6 @@
 -- What is left of the list gives the whole. Assumes nothing.
-use Rattle.std.proofs.Common.{◌≡◌, ℕ, ◌-◌, ◌≤◌, ltb, length, take, drop, refl, ◌∙◌, arith, rules, le-ltb, lt-ltb}
+use Rattle.std.proofs.Common.{◌≡◌, ℕ, ◌-◌, ◌≤◌, ltb, take, drop}
 use Rattle.arithmetic.specs.Tests.{all}
-use Rattle.arithmetic.proofs.LoopLaws.{front_more, front_stop, front_done}
-use Rattle.arena.proofs.rules.all_below.Reads as reads
-use Rattle.arena.proofs.rules.all_below.Lts as lts
 use Rattle.arena.proofs.rules.all_below.Given as goal
 
 abbrev pub invariant-loop-k : goal.invariant-loop-k

@@ -1,12 +1,10 @@
-use Rattle.std.proofs.Common.{◌≡◌, ◌-◌, [], sym, refl, ◌∙◌, arith, rules}
+use Rattle.std.proofs.Common.{◌≡◌, ◌-◌, [], sym, refl, ◌∙◌, arith}
 use Rattle.arena.specs.Slots.{NIL, at, chain}
 use Rattle.arithmetic.specs.Tests.{same}
 use Rattle.arena.specs.Support.Lists.{listed, order_of}
 use Rattle.arithmetic.proofs.TestLaws.{same_no}
 use Rattle.arena.proofs.Forests.ChainLaws.{chain_none, chain_spent}
-use Rattle.arena.proofs.Checks.WalkLaws.{Chained, chained_start, chained_more, chained_done}
-use Rattle.arena.proofs.rules.free_chain.Reads as reads
-use Rattle.arena.proofs.rules.free_chain.Lts as lts
+use Rattle.arena.proofs.Checks.WalkLaws.{chained_start, chained_more, chained_done}
 use Rattle.arena.proofs.rules.free_chain.Goals as goal
 
 pub loop-i-init : goal.loop-i-init

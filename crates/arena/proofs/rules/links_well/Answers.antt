@@ -2,12 +2,6 @@
 use Rattle.std.proofs.Common.{◌≡◌, length, sym, arith, length-take-le, rules, le-leb}
 use Rattle.arena.proofs.Checks.CheckLaws.{links_whole}
 use borrow.Author.Tests.{lt-leb}
-use Rattle.arena.proofs.rules.links_well.Reads as reads
-use Rattle.arena.proofs.rules.links_well.Lts as lts
-use Rattle.arena.proofs.rules.each_once.Reads as each-once-reads
-use Rattle.arena.proofs.rules.free_chain.Reads as free-chain-reads
-use Rattle.arena.proofs.rules.reach.Reads as reach-reads
-use Rattle.arena.proofs.rules.root_well.Reads as root-well-reads
 use Rattle.arena.proofs.rules.links_well.Goals as goal
 
 pub returns-then-limit-gt128 : goal.returns-then-limit-gt128
@@ -19,5 +13,5 @@ returns c =
     let a = c.args in
     let e : length c.reach-reached.result.items ≡ 128 = search rules in
     rw (le-leb _ _ c.if-limit-gt128.false)
-    (links_whole a.limit a.slots a.free a.live r.ensures.2 c.free_chain-chain.ensures.2 c.?root_well_lem.ensures c.?each_only_once.ensures r.ensures.3 c.free_chain-chain.ensures.3
+    (links_whole a.limit a.slots a.free a.live r.ensures.2 c.free_chain-chain.ensures.2 c.root_well-root.ensures c.each_once-each.ensures r.ensures.3 c.free_chain-chain.ensures.3
     (sym (length-take-le r.result.count r.result.items (omega (arith, e, r.ensures.0)))))

@@ -1,8 +1,6 @@
 -- The list with one more, or a full list as it is. Assumes nothing.
-use Rattle.std.proofs.Common.{rules, le-ltb, lt-ltb}
+use Rattle.std.proofs.Common.{le-ltb, lt-ltb}
 use Rattle.arena.specs.Support.Lists.{added}
-use Rattle.arena.proofs.rules.push.Reads as reads
-use Rattle.arena.proofs.rules.push.Lts as lts
 use Rattle.arena.proofs.rules.push.Goals as goal
 
 pub returns-then-count-ge128 : goal.returns-then-count-ge128

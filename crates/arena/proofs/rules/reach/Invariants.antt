@@ -1,13 +1,7 @@
 -- The node at `at` is passed up to its child: what is left of the walk gives the whole list, and what is left to check the whole check. Assumes nothing.
-use Rattle.std.proofs.Common.{◌≡◌, ◌+◌, ◌-◌, ◌*◌, ◌%◌, [], get_or, refl, ⊎_elim, arith, rules}
-use Rattle.arena.specs.Slots.{at, chain}
-use Rattle.arithmetic.specs.Tests.{same}
-use Rattle.arena.specs.Support.Lists.{listed, order_of}
-use Rattle.arena.proofs.Forests.ChainLaws.{chain_none, chain_spent}
-use Rattle.arena.proofs.Checks.WalkLaws.{Walk, walk_start, walk_child, walk_next, walk_done}
-use Rattle.arena.proofs.rules.reach.Reads as reads
-use Rattle.arena.proofs.rules.reach.Lts as lts
-use Rattle.arena.proofs.rules.push.Reads as push-reads
+use Rattle.std.proofs.Common.{◌+◌, ◌-◌, ◌*◌}
+use Rattle.arena.specs.Support.Lists.{order_of}
+use Rattle.arena.proofs.Checks.WalkLaws.{Walk}
 use Rattle.arena.proofs.rules.reach.Given as goal
 
 abbrev pub invariant-loop-at : goal.invariant-loop-at

@@ -1,24 +1,9 @@
-use Rattle.std.proofs.Common.{◌≡◌, ◌-◌, ◌%◌, ◌<◌, ◌≤◌, length, get_or, take, sym, refl, ◌∙◌, arith, length-set, rules}
-use Rattle.arena.specs.Support.Lists.{Tallied}
+use Rattle.std.proofs.Common.{◌≡◌, ◌%◌, ◌<◌, length, get_or, sym, refl, ◌∙◌, arith, length-set, rules}
 use Rattle.arena.proofs.Checks.WalkLaws.{counted_few, tallied_more, tallied_none}
-use Rattle.arena.proofs.rules.tally.Reads as reads
-use Rattle.arena.proofs.rules.tally.Lts as lts
 use Rattle.arena.proofs.rules.tally.Goals as goal
 
 pub loop-k-init : goal.loop-k-init
 loop-k-init c = (search rules, refl, tallied_none)
-
-pub overflow_cast-n : goal.overflow_cast-n
-overflow_cast-n c = let p = c.requires.0 in search rules
-
-pub offset_bounds-items-n : goal.offset_bounds-items-n
-offset_bounds-items-n c = let p = c.requires.0 in search rules
-
-pub bounds-items-n : goal.bounds-items-n
-bounds-items-n c = let p = c.requires.0 in omega (arith, p, c.loop-k-test.true)
-
-pub bounds-times-i : goal.bounds-times-i
-bounds-times-i c = omega arith
 
 pub overflow_add-times : goal.overflow_add-times
 overflow_add-times c =
@@ -28,12 +13,6 @@ overflow_add-times c =
     let x : get_or c.args.items l.k 0 % 128 < 128 = omega arith in
     let w = counted_few c.args.items l.times l.k (omega (arith, e, p.0, c.loop-k-test.true)) l.invariant.1 (p.1 l.k) l.invariant.2 (get_or c.args.items l.k 0 % 128) x in
     search rules
-
-pub bounds-times-i-in-loop-k : goal.bounds-times-i-in-loop-k
-bounds-times-i-in-loop-k c = omega arith
-
-pub loop-k-smaller : goal.loop-k-smaller
-loop-k-smaller c = omega (arith, c.loop-k-test.true)
 
 pub loop-k-preserved : goal.loop-k-preserved
 loop-k-preserved c =

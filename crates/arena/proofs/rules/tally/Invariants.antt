@@ -1,9 +1,6 @@
 -- The first k items are counted. Assumes nothing.
-use Rattle.std.proofs.Common.{◌≡◌, ◌-◌, ◌%◌, ◌<◌, ◌≤◌, length, get_or, take, sym, refl, ◌∙◌, arith, length-set, rules}
+use Rattle.std.proofs.Common.{◌≡◌, ◌-◌, ◌≤◌, length, take}
 use Rattle.arena.specs.Support.Lists.{Tallied}
-use Rattle.arena.proofs.Checks.WalkLaws.{counted_few, tallied_more, tallied_none}
-use Rattle.arena.proofs.rules.tally.Reads as reads
-use Rattle.arena.proofs.rules.tally.Lts as lts
 use Rattle.arena.proofs.rules.tally.Given as goal
 
 abbrev pub invariant-loop-k : goal.invariant-loop-k
