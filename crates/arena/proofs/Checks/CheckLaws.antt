@@ -17,12 +17,6 @@ module _ (p : ℕ → Bool) (n i : ℕ) where
   pub range_here : {b : Bool} → i < n → b ≡ p i → b ≡ false → false ≡ all p (from_to i (n - i))
   range_here h q t = rw (rest h, ← q, t)
 
-  pub range_done : n ≤ i → true ≡ all p (from_to i (n - i))
-  range_done h = let e : n - i ≡ 0 = omega arith in rw e
-
-pub range_start : (p : ℕ → Bool) (n : ℕ) → all p (from_to 0 (n - 0)) ≡ all p (from_to 0 n)
-range_start p n = let e : n - 0 ≡ n = omega arith in ap (λ (m : ℕ). all p (from_to 0 m)) e
-
 -- the test of one slot, by how often it is in each list
 pub once_counted : (s : Slots) (r f a b : List ℕ) (i : ℕ) → Tallied a r → Tallied b f → i < 128
     → (same (get_or a i 0) (aliveness (at s i)) && same (get_or a i 0 + get_or b i 0) 1) ≡ once s r f i

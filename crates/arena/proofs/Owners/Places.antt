@@ -62,10 +62,6 @@ the_place_is_inside d fs k e = omega (arith, behind_the_front (owns d) fs 0 k e)
 -- ---- the first that passes, changed
 
 module _ (p : Field → Bool) (c : Field → Field) (l : List Field) where
-  pub change_goes_on : (i : ℕ) (d : Field) {b : Bool} → i < length l → b ≡ p (get_or l i d) → b ≡ false
-      → take (i + 1) l ++ change_first p c (drop (i + 1) l) ≡ take i l ++ change_first p c (drop i l)
-  change_goes_on i d h e q = rw (drop-cons l i d, ← e, q, add-one, take-suc l i d, append_assoc)
-
   pub change_is_here : (i : ℕ) (d : Field) {b : Bool} {r : Field} → i < length l → b ≡ p (get_or l i d) → b ≡ true → r ≡ c (get_or l i d)
       → set l i r ≡ take i l ++ change_first p c (drop i l)
   change_is_here i d h e q s = rw (drop-cons l i d, ← e, q, s, set_split l i)

@@ -1,11 +1,8 @@
-use Rattle.std.proofs.Common.{refl, ap, ◌∙◌, arith, rules}
+use Rattle.std.proofs.Common.{ap, ◌∙◌, arith, rules}
 use Rattle.arena.specs.Fields.{owns}
 use Rattle.arena.specs.Support.Places.{place_of, field_at}
 use Rattle.arena.proofs.Owners.Places.{no_field, place_goes_on, place_is_here, place_is_nowhere, the_place_has_the_field}
 use Rattle.arena.proofs.fields.field_place.Goals as goal
-
-pub loop-i-init : goal.loop-i-init
-loop-i-init c = (search rules, search rules, refl)
 
 pub returns-then-owns : goal.returns-then-owns
 unfolding place_of

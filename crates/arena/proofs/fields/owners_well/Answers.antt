@@ -1,9 +1,6 @@
-use Rattle.std.proofs.Common.{refl, ◌∙◌, arith, rules}
+use Rattle.std.proofs.Common.{◌∙◌, arith, rules}
 use Rattle.arena.proofs.Owners.Places.{no_field, owners_go_on, owners_stop, owners_done}
 use Rattle.arena.proofs.fields.owners_well.Goals as goal
-
-pub loop-i-init : goal.loop-i-init
-loop-i-init c = (search rules, search rules, refl)
 
 pub returns-then-not-is_lone : goal.returns-then-not-is_lone
 returns-then-not-is_lone c = owners_stop c.args.fields c.loop-i.i no_field (omega arith) c.is_lone.ensures c.if-not-is_lone.true ∙ c.loop-i.invariant.2

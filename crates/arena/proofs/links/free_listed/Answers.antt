@@ -1,10 +1,7 @@
 use Rattle.arena.proofs.Checks.ListLaws.{freed_more, freed_done}
 use Rattle.arena.specs.Support.Lists.{listed}
-use Rattle.std.proofs.Common.{◌<◌, ◌≤◌, length, refl, ◌∙◌, arith, rules}
+use Rattle.std.proofs.Common.{◌<◌, ◌≤◌, length, ◌∙◌, arith, rules}
 use Rattle.arena.proofs.links.free_listed.Goals as goal
-
-pub loop-k-init : goal.loop-k-init
-loop-k-init c = (search rules, refl, refl)
 
 pub loop-k-preserved : goal.loop-k-preserved
 loop-k-preserved c = let t : c.loop-k.k < length (listed c.args.o) = omega arith in

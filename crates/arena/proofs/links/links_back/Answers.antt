@@ -1,12 +1,9 @@
-use Rattle.std.proofs.Common.{◌≡◌, ℕ, length, refl, ◌∙◌, arith, length-set, rules, below_none}
+use Rattle.std.proofs.Common.{◌≡◌, ℕ, length, refl, ◌∙◌, arith, length-set, rules}
 use Rattle.arithmetic.proofs.Sums.{filled_one_further}
 use Rattle.arena.specs.Slots.{at}
 use Rattle.arena.specs.declared.Slot.{Slot}
 use Rattle.arena.proofs.Checks.ListLaws.{every_link}
 use Rattle.arena.proofs.links.links_back.Goals as goal
-
-pub loop-i-init : goal.loop-i-init
-loop-i-init c = (omega arith, refl, refl, below_none _, below_none _)
 
 pub loop-i-preserved : goal.loop-i-preserved
 unfolding at

@@ -1,11 +1,8 @@
-use Rattle.std.proofs.Common.{◌<◌, ◌∙◌, arith, rules}
+use Rattle.std.proofs.Common.{◌<◌, ◌∙◌, arith}
 use Rattle.arena.specs.Slots.{at}
 use Rattle.arena.specs.Rules.{once}
-use Rattle.arena.proofs.Checks.CheckLaws.{range_start, range_more, range_here, range_done, once_counted}
+use Rattle.arena.proofs.Checks.CheckLaws.{range_more, range_here, once_counted}
 use Rattle.arena.proofs.rules.all_once.Goals as goal
-
-pub loop-i-init : goal.loop-i-init
-loop-i-init c = (search rules, λ l m _ _. range_start (once c.args.slots l m) c.args.limit)
 
 pub returns-then-not-once_well : goal.returns-then-not-once_well
 unfolding at
@@ -22,6 +19,3 @@ loop-i-preserved c =
       omega (arith, c.loop-i-test.true),
       λ l m p q. range_more (once a.slots l m) a.limit c.loop-i.i c.loop-i-test.true (c.once_well.ensures ∙ once_counted a.slots l m a.reached a.free c.loop-i.i p q h) c.if-not-once_well.false ∙ c.loop-i.invariant.1 l m p q,
     )
-
-pub returns : goal.returns
-returns c = λ l m p q. range_done (once c.args.slots l m) c.args.limit c.loop-i.i c.loop-i-test.false ∙ c.loop-i.invariant.1 l m p q

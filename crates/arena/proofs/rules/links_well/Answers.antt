@@ -1,11 +1,7 @@
 -- The definition's rules, on what the two walks give. Assumes nothing.
 use Rattle.std.proofs.Common.{◌≡◌, length, sym, arith, length-take-le, rules, le-leb}
 use Rattle.arena.proofs.Checks.CheckLaws.{links_whole}
-use borrow.Author.Tests.{lt-leb}
 use Rattle.arena.proofs.rules.links_well.Goals as goal
-
-pub returns-then-limit-gt128 : goal.returns-then-limit-gt128
-returns-then-limit-gt128 c = rw (lt-leb _ _ c.if-limit-gt128.true)
 
 pub returns : goal.returns
 returns c =

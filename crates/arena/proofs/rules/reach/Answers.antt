@@ -35,6 +35,3 @@ loop-at-preserved c =
     let x = get_or l.items (l.at + 1) 0 in
     let m : x % 128 ≡ x = omega (arith, l.invariant.1 (l.at + 1)) in
     rw m d
-
-pub returns : goal.returns
-returns c = let a = c.loop-at.invariant.2 in let b = c.loop-at-test.false in absurd (omega arith)

@@ -1,4 +1,4 @@
-use Rattle.std.proofs.Common.{◌≡◌, ◌%◌, ◌<◌, length, get_or, sym, refl, ◌∙◌, arith, length-set, rules}
+use Rattle.std.proofs.Common.{◌≡◌, ◌%◌, ◌<◌, length, get_or, refl, ◌∙◌, arith, length-set, rules}
 use Rattle.arena.proofs.Checks.WalkLaws.{counted_few, tallied_more, tallied_none}
 use Rattle.arena.proofs.rules.tally.Goals as goal
 
@@ -26,9 +26,3 @@ loop-k-preserved c =
       length-set l.times (get_or t l.k 0) _ ∙ l.invariant.1,
       tallied_more t l.times l.k (omega (arith, e, p.0, c.loop-k-test.true)) l.invariant.1 (p.1 l.k) l.invariant.2,
     )
-
-pub returns : goal.returns
-returns c =
-    let l = c.loop-k in
-    let e : l.k ≡ c.args.count = omega (arith, l.invariant.0, c.loop-k-test.false) in
-    rw (sym e) l.invariant.2
