@@ -8,8 +8,8 @@ use Rattle.tree.proofs.Ui.field_cursor.Goals as goal
 
 pub returns-in-Refused : goal.returns-in-Refused
 unfolding field_cursor
-returns-in-Refused c = ap (λ (o : Outcome ℕ). o.answer) (a_read_is_refused c.args.self c.args.d _ _ _ (sym c.field_place.ensures ∙ c.word-1.given.1))
+returns-in-Refused c = ap (λ (o : Outcome ℕ). o.answer) (a_read_is_refused c.args.self c.args.d _ _ _ (sym c.field_place.ensures ∙ c.in-Refused.is))
 
 pub returns-in-At : goal.returns-in-At
 unfolding field_cursor
-returns-in-At c = ap (λ (o : Outcome ℕ). o.answer) (a_read_finds_the_field c.args.self c.args.d _ _ _ (sym c.field_place.ensures ∙ c.i-1.given.1) c.field_at-f.ensures)
+returns-in-At c = ap (λ (o : Outcome ℕ). o.answer) (a_read_finds_the_field c.args.self c.args.d _ _ _ (sym c.field_place.ensures ∙ c.in-At.is) c.field_at-f.ensures)

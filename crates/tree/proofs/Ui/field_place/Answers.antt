@@ -6,12 +6,12 @@ use Rattle.tree.proofs.Ui.field_place.Goals as goal
 
 pub returns-in-Refused : goal.returns-in-Refused
 unfolding fieldPlace
-returns-in-Refused c = rw (sym c.precheck.ensures ∙ c.word-1.given.1)
+returns-in-Refused c = rw (sym c.precheck.ensures ∙ c.in-Refused.is)
 
 pub returns-in-Nowhere : goal.returns-in-Nowhere
 unfolding fieldPlace
-returns-in-Nowhere c = rw (sym c.precheck.ensures ∙ c.enum_told-1.given.1, sym c.field_place.ensures.0 ∙ c.enum_told-in-Nowhere-1.given.1)
+returns-in-Nowhere c = rw (sym c.precheck.ensures ∙ c.in-Accepted.is, sym c.field_place.ensures.0 ∙ c.in-Nowhere.is)
 
 pub returns-in-At : goal.returns-in-At
 unfolding fieldPlace
-returns-in-At c = rw (sym c.precheck.ensures ∙ c.enum_told-1.given.1, sym c.field_place.ensures.0 ∙ c.i-1.given.1)
+returns-in-At c = rw (sym c.precheck.ensures ∙ c.in-Accepted.is, sym c.field_place.ensures.0 ∙ c.in-At.is)

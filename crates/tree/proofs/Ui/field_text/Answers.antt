@@ -11,8 +11,8 @@ use Rattle.tree.proofs.Ui.field_text.Goals as goal
 
 pub returns-in-Refused : goal.returns-in-Refused
 unfolding field_text
-returns-in-Refused c = ap (λ (o : Outcome Shown). o.answer) (a_read_is_refused c.args.self c.args.d _ _ _ (sym c.field_place.ensures ∙ c.word-1.given.1))
+returns-in-Refused c = ap (λ (o : Outcome Shown). o.answer) (a_read_is_refused c.args.self c.args.d _ _ _ (sym c.field_place.ensures ∙ c.in-Refused.is))
 
 pub returns-in-At : goal.returns-in-At
 unfolding field_text
-returns-in-At c = ap (λ (b : List ℕ). accepted (record { bytes = b; len = c.field_at-f.result.len })) c.shown-bytes.ensures ∙ ap (λ (o : Outcome Shown). o.answer) (a_read_finds_the_field c.args.self c.args.d _ _ _ (sym c.field_place.ensures ∙ c.i-1.given.1) c.field_at-f.ensures)
+returns-in-At c = ap (λ (b : List ℕ). accepted (record { bytes = b; len = c.field_at-f.result.len })) c.shown-bytes.ensures ∙ ap (λ (o : Outcome Shown). o.answer) (a_read_finds_the_field c.args.self c.args.d _ _ _ (sym c.field_place.ensures ∙ c.in-At.is) c.field_at-f.ensures)

@@ -9,8 +9,8 @@ use Rattle.tree.proofs.Ui.rect.Goals as goal
 
 pub returns-in-Refused : goal.returns-in-Refused
 unfolding rect
-returns-in-Refused c = ap (λ (o : Outcome Rect). o.answer) (refused_at_once _ _ _ _ _ (sym c.precheck.ensures ∙ c.word-1.given.1))
+returns-in-Refused c = ap (λ (o : Outcome Rect). o.answer) (refused_at_once _ _ _ _ _ (sym c.precheck.ensures ∙ c.in-Refused.is))
 
 pub returns-in-Accepted : goal.returns-in-Accepted
 unfolding rect
-returns-in-Accepted c = ap (λ (r : Rect). accepted r) c.rect_at.ensures ∙ ap (λ (o : Outcome Rect). o.answer) (not_refused c.args.self c.args.d _ _ (sym c.precheck.ensures ∙ c.enum_told-1.given.1))
+returns-in-Accepted c = ap (λ (r : Rect). accepted r) c.rect_at.ensures ∙ ap (λ (o : Outcome Rect). o.answer) (not_refused c.args.self c.args.d _ _ (sym c.precheck.ensures ∙ c.in-Accepted.is))

@@ -19,11 +19,11 @@ returns-then-table_in_pool c =
     let d = c.args.d in
     let o : Outcome ℕ = cond (all (in_pool u.patch_count) c.args.table) (gives (tabled_at u d.index c.args.table) 0) (refuses u Foreign 0) in
     let p : gives c.table_at-next.result 0 ≡ o = rw (sym c.table_in_pool.ensures ∙ c.if-table_in_pool.true) (ap (λ (v : Ui). gives v 0) c.table_at-next.ensures) in
-    p ∙ not_refused u d 0 o (sym c.precheck.ensures ∙ c.enum_told-1.given.1)
+    p ∙ not_refused u d 0 o (sym c.precheck.ensures ∙ c.in-Accepted.is)
 
 pub returns-in-Refused : goal.returns-in-Refused
 unfolding set_state_table
-returns-in-Refused c = refused_at_once _ _ _ _ _ (sym c.precheck.ensures ∙ c.word-1.given.1)
+returns-in-Refused c = refused_at_once _ _ _ _ _ (sym c.precheck.ensures ∙ c.in-Refused.is)
 
 pub returns-else-table_in_pool : goal.returns-else-table_in_pool
 unfolding set_state_table
@@ -32,4 +32,4 @@ returns-else-table_in_pool c =
     let d = c.args.d in
     let o : Outcome ℕ = cond (all (in_pool u.patch_count) c.args.table) (gives (tabled_at u d.index c.args.table) 0) (refuses u Foreign 0) in
     let p : refuses u Foreign 0 ≡ o = rw (sym c.table_in_pool.ensures ∙ c.if-table_in_pool.false) in
-    p ∙ not_refused u d 0 o (sym c.precheck.ensures ∙ c.enum_told-1.given.1)
+    p ∙ not_refused u d 0 o (sym c.precheck.ensures ∙ c.in-Accepted.is)

@@ -8,8 +8,8 @@ use Rattle.tree.proofs.Ui.set_style.Goals as goal
 
 pub returns-in-Refused : goal.returns-in-Refused
 unfolding set_style
-returns-in-Refused c = refused_at_once _ _ _ _ _ (sym c.precheck.ensures ∙ c.word-1.given.1)
+returns-in-Refused c = refused_at_once _ _ _ _ _ (sym c.precheck.ensures ∙ c.in-Refused.is)
 
 pub returns-in-Accepted : goal.returns-in-Accepted
 unfolding set_style
-returns-in-Accepted c = ap (λ (v : Ui). gives v 0) c.style_at-next.ensures ∙ not_refused c.args.self c.args.d 0 _ (sym c.precheck.ensures ∙ c.enum_told-1.given.1)
+returns-in-Accepted c = ap (λ (v : Ui). gives v 0) c.style_at-next.ensures ∙ not_refused c.args.self c.args.d 0 _ (sym c.precheck.ensures ∙ c.in-Accepted.is)

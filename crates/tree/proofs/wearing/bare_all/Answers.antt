@@ -16,8 +16,8 @@ use Rattle.tree.proofs.wearing.bare_all.Goals as goal
 
 pub loop-i-init : goal.loop-i-init
 loop-i-init c =
-    let h : length c.args.u.layout ≡ 128 = sym (length-map c.args.u.layout _) ∙ c.well_formed.0.1.1.1.0.1.0.1 in
-    let g : length c.args.u.states ≡ 128 = sym (length-map c.args.u.states _) ∙ c.well_formed.0.1.1.1.1.1.1.1.1.1.0.1.0.1 in
+    let h : length c.args.u.layout ≡ 128 = c.well_formed.0.1.1.1.0.1.0.1 in
+    let g : length c.args.u.states ≡ 128 = c.well_formed.0.1.1.1.1.1.1.1.1.1.0.1.0.1 in
     (search rules, h, g, bare_start _ c.args.limit)
 
 pub loop-i-preserved-then-at-ge128 : goal.loop-i-preserved-then-at-ge128

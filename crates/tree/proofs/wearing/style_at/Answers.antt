@@ -14,8 +14,8 @@ use Rattle.tree.proofs.wearing.style_at.Goals as goal
 pub returns-then-i-ge128 : goal.returns-then-i-ge128
 unfolding with_styles
 returns-then-i-ge128 c =
-    let h : length c.args.u.layout ≡ 128 = sym (length-map c.args.u.layout _) ∙ c.well_formed.0.1.1.1.0.1.0.1 in
-    let g : length c.args.u.states ≡ 128 = sym (length-map c.args.u.states _) ∙ c.well_formed.0.1.1.1.1.1.1.1.1.1.0.1.0.1 in
+    let h : length c.args.u.layout ≡ 128 = c.well_formed.0.1.1.1.0.1.0.1 in
+    let g : length c.args.u.states ≡ 128 = c.well_formed.0.1.1.1.1.1.1.1.1.1.0.1.0.1 in
     rw (styled_past c.args.u c.args.i c.args.style (omega (arith, h, c.if-i-ge128.true)) (omega (arith, g, c.if-i-ge128.true)))
 
 pub returns-then-s : goal.returns-then-s

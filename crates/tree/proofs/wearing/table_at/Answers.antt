@@ -11,7 +11,7 @@ use Rattle.tree.proofs.wearing.table_at.Goals as goal
 
 pub returns-then-i-ge128 : goal.returns-then-i-ge128
 returns-then-i-ge128 c =
-    let g : length c.args.u.states ≡ 128 = sym (length-map c.args.u.states _) ∙ c.well_formed.0.1.1.1.1.1.1.1.1.1.0.1.0.1 in
+    let g : length c.args.u.states ≡ 128 = c.well_formed.0.1.1.1.1.1.1.1.1.1.0.1.0.1 in
     c.wear.ensures ∙ sym (tabled_past c.args.u c.args.i c.args.table (omega (arith, g, c.if-i-ge128.true)))
 
 pub returns : goal.returns
