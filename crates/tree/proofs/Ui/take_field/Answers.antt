@@ -8,7 +8,6 @@ use Rattle.arithmetic.specs.Tests.{all}
 use Rattle.tree.specs.Trees.{limit_of, with_fields}
 use Rattle.arena.specs.Fields.{vacant, reclaimed, claimed}
 use Rattle.tree.specs.Calls.{gives, take_vacant}
-use borrow.Author.Rules.{rules}
 use Rattle.tree.proofs.Ui.take_field.Goals as goal
 
 pub returns-then-all_taken : goal.returns-then-all_taken

@@ -1,7 +1,6 @@
 -- Each part by its contract. Assumes nothing.
 use Rattle.tree.specs.Calls.{insert_at}
 use Rattle.tree.specs.Trees.{with_nodes}
-use borrow.Author.Rules.{rules}
 use Rattle.tree.proofs.nodes.insert_at.Goals as goal
 
 pub returns : goal.returns

@@ -1,6 +1,5 @@
 -- By the test of the link. Assumes nothing.
 use Rattle.arithmetic.proofs.TestLaws.{same_yes, same_no}
-use borrow.Author.Rules.{rules}
 use Rattle.tree.proofs.nodes.neighbour.Goals as goal
 
 pub returns-then-i-eq-NIL : goal.returns-then-i-eq-NIL

@@ -1,6 +1,5 @@
 -- Each part by its contract. Assumes nothing.
 use Rattle.tree.specs.Calls.{fresh}
-use borrow.Author.Rules.{rules}
 use Rattle.tree.proofs.start.fresh.Goals as goal
 
 pub returns : goal.returns

@@ -1,5 +1,4 @@
 -- By the fresh style's contract. Assumes nothing.
-use borrow.Author.Rules.{rules}
 use Rattle.tree.proofs.start.fresh_patches.Goals as goal
 
 pub returns : goal.returns

@@ -1,17 +1,12 @@
-use mathlib.Core.Path.{◌≡◌, sym, ◌∙◌}
+use mathlib.Core.Path.{◌≡◌, ◌∙◌}
 use native.Mathlib.Omega.{arith}
 use borrow.Author.Rules.{rules}
 use borrow.Author.Tests.{eq-eqb, ne_eqb}
-use Prim.Native.Nat.{◌-◌, ◌≤◌}
-use lib.ListN.{length, length-map, length-set}
-use Rattle.arithmetic.specs.Tests.{same, from_to}
+use lib.ListN.{length, length-set}
+use Rattle.arithmetic.specs.Tests.{same}
 use Rattle.boxes.specs.Styles.{state_at, layout_at}
 use Rattle.tree.specs.Trees.{with_styles}
-use Rattle.boxes.specs.States.{bare_all}
-use Rattle.tree.specs.Wearing.{appearance_of, with_appearance}
 use Rattle.tree.proofs.Wearings.{bare_start, bare_more, bare_done, bared_outside, bared_as_it_is, bared_anew}
-use Rattle.tree.proofs.wearing.bare_all.Reads as reads
-use Rattle.tree.proofs.wearing.bare_all.Lts as lts
 use Rattle.tree.proofs.wearing.bare_all.Goals as goal
 
 pub loop-i-init : goal.loop-i-init

@@ -4,7 +4,6 @@ use Rattle.tree.specs.Trees.{with_styles, with_pool}
 use Rattle.tree.specs.Wearing.{with_appearance}
 use mathlib.Core.Path.{ap}
 use Rattle.tree.specs.declared.Ui.{Ui}
-use borrow.Author.Rules.{rules}
 use Rattle.tree.proofs.wearing.pool.Goals as goal
 
 pub returns : goal.returns

@@ -1,6 +1,6 @@
 -- Inside the slots each part by its contract; past them a slot of zeros is read. Assumes nothing.
-use mathlib.Core.Path.{◌≡◌, sym, ◌∙◌}
-use lib.ListN.{length, length-map}
+use mathlib.Core.Path.{◌≡◌}
+use lib.ListN.{length}
 use native.Mathlib.Omega.{arith}
 use borrow.Author.Tests.{eq-eqb, ne_eqb}
 use Rattle.tree.proofs.Wearings.{styled_past}
@@ -8,7 +8,6 @@ use Rattle.tree.specs.Wearing.{styled_at}
 use Rattle.arithmetic.specs.Tests.{same}
 use Rattle.boxes.specs.Styles.{state_at, layout_at}
 use Rattle.tree.specs.Trees.{with_styles}
-use borrow.Author.Rules.{rules}
 use Rattle.tree.proofs.wearing.style_at.Goals as goal
 
 pub returns-then-i-ge128 : goal.returns-then-i-ge128

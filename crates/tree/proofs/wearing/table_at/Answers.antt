@@ -1,12 +1,11 @@
 -- Wearing is by its contract; past the slots a slot of zeros is read. Assumes nothing.
 use mathlib.Core.Path.{◌≡◌, refl, sym, ◌∙◌}
-use lib.ListN.{length, length-map}
+use lib.ListN.{length}
 use native.Mathlib.Omega.{arith}
 use Rattle.tree.proofs.Wearings.{tabled_past}
 use Rattle.tree.specs.Wearing.{tabled_at, with_appearance}
 use Rattle.boxes.specs.Styles.{state_at}
 use Rattle.tree.specs.Trees.{with_styles}
-use borrow.Author.Rules.{rules}
 use Rattle.tree.proofs.wearing.table_at.Goals as goal
 
 pub returns-then-i-ge128 : goal.returns-then-i-ge128

@@ -1,6 +1,6 @@
 -- Inside the slots each part by its contract; past them a slot of zeros is read. Assumes nothing.
-use mathlib.Core.Path.{◌≡◌, sym, ◌∙◌}
-use lib.ListN.{length, length-map}
+use mathlib.Core.Path.{◌≡◌}
+use lib.ListN.{length}
 use native.Mathlib.Omega.{arith}
 use borrow.Author.Tests.{eq-eqb, ne_eqb}
 use Rattle.boxes.proofs.Styles.Wearings.{wear_past}
