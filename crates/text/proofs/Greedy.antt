@@ -6,24 +6,15 @@ use mathlib.Core.Logic.{◌⊎◌, inl, inr, ⊎_elim}
 use mathlib.Core.List.{List, [], ◌∷◌, ◌++◌, append-nil}
 use Prim.Native.Nat.{ℕ, suc, ◌+◌, ◌-◌, ◌≤◌, ◌<◌, max}
 use native.Mathlib.Omega.{arith}
-use borrow.Author.Tests.{ltb-true, ltb-false, eqb-true, eq-eqb}
-use lib.Dec.{eqb, ltb}
+use borrow.Author.Tests.{eqb-true, eq-eqb}
+use lib.Dec.{eqb}
 use lib.ListN.{length}
-use Rattle.arithmetic.proofs.BoolLaws.{pick_of, and_left, and_right}
+use Rattle.arithmetic.proofs.BoolLaws.{pick_of}
 use Rattle.text.specs.Lines.{Lines, first_of, more_of, count_of, behind, text_of, width_of, widest_in, widest, cut, onto, words_of, word_of, breaks, greedy_from, greedy, FullIn, Full}
 use Rattle.text.specs.Lines.Lines.{lines}
+use Rattle.text.proofs.Breaks.{at_space, over_full, room}
 
 module _ (adv : ℕ → ℕ) where
-  -- a break, and none
-  module _ (w u c : ℕ) (cs : List ℕ) where
-    at_space : breaks adv w u c cs ≡ true → c ≡ 32
-    unfolding breaks
-    at_space e = eqb-true c 32 (and_left (eqb c 32) (ltb w (u + adv c + width_of adv (word_of cs))) e)
-
-    over_full : breaks adv w u c cs ≡ true → w < u + adv c + width_of adv (word_of cs)
-    unfolding breaks
-    over_full e = ltb-true w _ (and_right (eqb c 32) (ltb w (u + adv c + width_of adv (word_of cs))) e)
-
   -- the first word is no wider than the line that it begins
   word_width : (l t : List ℕ) → word_of t ≡ [] → width_of adv (word_of (l ++ t)) ≤ width_of adv l
   unfolding word_of width_of
@@ -55,7 +46,7 @@ module _ (adv : ℕ → ℕ) where
   along w k [] t n h u v d o f = h u v d o f
   along w k (c ∷ l) t n h u v d o f =
       pick_of (λ (b : Lines). count_of b ≤ d + k) (breaks adv w u c (l ++ t)) {x = cut (greedy_from adv w 0 (l ++ t))} {y = onto c (greedy_from adv w (u + adv c) (l ++ t))}
-      (λ e. let s : 0 < d = ⊎_elim (λ q. absurd (omega (arith, over_full w u c (l ++ t) e, word_width l t n))) (λ q. q) o in
+      (λ e. let s : 0 < d = ⊎_elim (λ q. absurd (omega (arith, over_full adv w u c (l ++ t) e, word_width l t n))) (λ q. q) o in
       let r = along w k l t n h 0 (v + adv c) (d - 1) (inl (omega arith)) (omega arith) in
       omega (arith, cut_count (greedy_from adv w 0 (l ++ t))))
       (λ e. let p : (u + adv c ≤ v + adv c) ⊎ (0 < d) = ⊎_elim (λ q. inl (omega arith)) (λ q. inr q) o in
@@ -94,7 +85,7 @@ module _ (adv : ℕ → ℕ) where
       let p = whole w 0 cs in
       let q = whole w (u + adv c) cs in
       pick_of (λ (b : Lines). text_of b ≡ c ∷ cs) (breaks adv w u c cs) {x = cut (greedy_from adv w 0 cs)} {y = onto c (greedy_from adv w (u + adv c) cs)}
-      (λ e. cut_text (greedy_from adv w 0 cs) ∙ cc (at_space w u c cs e))
+      (λ e. cut_text (greedy_from adv w 0 cs) ∙ cc (at_space adv w u c cs e))
       (λ e. onto_text c (greedy_from adv w (u + adv c) cs) ∙ ap (λ (l : List ℕ). c ∷ l) q)
 
   -- So are the words, none of which holds a space.
@@ -138,12 +129,6 @@ module _ (adv : ℕ → ℕ) where
   rest_fits w c (lines l ls) true h = omega arith
   rest_fits w c (lines l ls) false h = omega arith
 
-  room : (w u c : ℕ) (cs : List ℕ) (t : Bool) → eqb c 32 ≡ t → breaks adv w u c cs ≡ false → u + width_of adv (word_of (c ∷ cs)) ≤ w
-      → u + adv c + width_of adv (word_of cs) ≤ w
-  unfolding breaks word_of width_of
-  room w u c cs true p e h = ltb-false w _ (rw p at e)
-  room w u c cs false p e h = let k : u + (adv c + width_of adv (word_of cs)) ≤ w = rw p at h in omega arith
-
   fits_from : (w u : ℕ) (cs : List ℕ) → u + width_of adv (word_of cs) ≤ w → widest adv (words_of cs) ≤ w → Fits w u (greedy_from adv w u cs)
   unfolding greedy_from words_of
   fits_from w u [] h k = unfold widest_in width_of word_of in (omega arith, omega arith)
@@ -152,7 +137,7 @@ module _ (adv : ℕ → ℕ) where
       let f : width_of adv (word_of cs) ≤ w = rw (word_first cs) at (first_fits w (words_of cs) r) in
       pick_of (Fits w u) (breaks adv w u c cs) {x = cut (greedy_from adv w 0 cs)} {y = onto c (greedy_from adv w (u + adv c) cs)}
       (λ e. cut_fits w u (greedy_from adv w 0 cs) (omega arith) (fits_from w 0 cs (omega arith) r))
-      (λ e. onto_fits w u c (greedy_from adv w (u + adv c) cs) (fits_from w (u + adv c) cs (room w u c cs (eqb c 32) refl e h) r))
+      (λ e. onto_fits w u c (greedy_from adv w (u + adv c) cs) (fits_from w (u + adv c) cs (room adv w u c cs (eqb c 32) refl e h) r))
 
   both : (w : ℕ) (b : Lines) → Fits w 0 b → widest adv b ≤ w
   unfolding widest widest_in
@@ -169,7 +154,7 @@ module _ (adv : ℕ → ℕ) where
   word_kept w u [] = refl
   word_kept w u (c ∷ cs) =
       pick_of (λ (b : Lines). word_of (first_of b) ≡ word_of (c ∷ cs)) (breaks adv w u c cs) {x = cut (greedy_from adv w 0 cs)} {y = onto c (greedy_from adv w (u + adv c) cs)}
-      (λ e. none (greedy_from adv w 0 cs) (eq-eqb c 32 (at_space w u c cs e)))
+      (λ e. none (greedy_from adv w 0 cs) (eq-eqb c 32 (at_space adv w u c cs e)))
       (λ e. one (greedy_from adv w (u + adv c) cs) (word_kept w (u + adv c) cs))
     where
       none : (b : Lines) → eqb c 32 ≡ true → word_of (first_of (cut b)) ≡ word_of (c ∷ cs)
@@ -207,7 +192,7 @@ module _ (adv : ℕ → ℕ) where
   full_from w u [] = tt
   full_from w u (c ∷ cs) =
       pick_of (FullAt w u) (breaks adv w u c cs) {x = cut (greedy_from adv w 0 cs)} {y = onto c (greedy_from adv w (u + adv c) cs)}
-      (λ e. let h : w < u + adv 32 + width_of adv (word_of cs) = rw (at_space w u c cs e) at (over_full w u c cs e) in
+      (λ e. let h : w < u + adv 32 + width_of adv (word_of cs) = rw (at_space adv w u c cs e) at (over_full adv w u c cs e) in
       cut_full w u (greedy_from adv w 0 cs) (rw (word_kept w 0 cs) h) (full_from w 0 cs))
       (λ e. onto_full w u c (greedy_from adv w (u + adv c) cs) (full_from w (u + adv c) cs))
 

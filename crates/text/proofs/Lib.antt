@@ -11,7 +11,9 @@ pub mod Shapes
 pub mod Texts
 pub mod Encodes
 pub mod Order
+pub mod Alternatives
 pub mod Rfc3629
+pub mod Breaks
 pub mod Greedy
 pub mod Words
 pub mod LineBytes

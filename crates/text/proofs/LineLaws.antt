@@ -64,14 +64,14 @@ start : (k : ℕ) (b : Lines) → k < count_of b → drop (get_or (starts_of b) 
 unfolding count_of starts_of from_line text_of
 start k (lines l ls) h = start_at k [] l ls (omega arith)
 
-starts_length : (n : ℕ) (ls : List (List ℕ)) → length (starts_from n ls) ≡ length ls
+starts_length : (ls : List (List ℕ)) (n : ℕ) → length (starts_from n ls) ≡ length ls
 unfolding starts_from
-starts_length n [] = refl
-starts_length n (m ∷ ms) = ap suc (starts_length (n + length m + 1) ms)
+starts_length [] n = refl
+starts_length (m ∷ ms) n = ap suc (starts_length ms _)
 
 as_many_starts : (b : Lines) → length (starts_of b) ≡ count_of b
 unfolding count_of starts_of
-as_many_starts (lines l ls) = starts_length 0 (l ∷ ls)
+as_many_starts (lines l ls) = starts_length (l ∷ ls) 0
 
 module _ (s : List ℕ) (w : ℕ) where
   as_asked : (room n : ℕ) → line_count_of s w room ≡ accepted n → AsAsked s w n (lines_of s w)
@@ -100,7 +100,7 @@ module _ (s : List ℕ) (w : ℕ) where
 
     count : length (starts_of (in_bytes (lines_of s w))) ≡ n
     unfolding starts_of
-    count = starts_length 0 (all_of (in_bytes (lines_of s w))) ∙ count_in_bytes (lines_of s w) ∙ (as_asked (length buf) n h).counted
+    count = starts_length (all_of (in_bytes (lines_of s w))) 0 ∙ count_in_bytes (lines_of s w) ∙ (as_asked (length buf) n h).counted
 
     each_place : (k : ℕ) → k < n → drop (get_or (starts_kept s w buf) k 0) s ≡ text_of (from_line k (in_bytes (lines_of s w)))
     each_place k q =

@@ -1,61 +1,21 @@
--- What is written and read is what RFC 3629 says. A character's bytes are one alternative of the grammar, found by the character's size;
--- and each alternative is some scalar value's bytes, so a string of the grammar is written, and what is written the reader takes. That bytes sort
--- as codes stands in Order. Assumes nothing.
+-- What is written and read is what RFC 3629 says. A character's bytes are one alternative of the grammar (Alternatives); and each alternative is
+-- some scalar value's bytes, so a string of the grammar is written, and what is written the reader takes. That bytes sort as codes stands in Order.
+-- Assumes nothing.
 use mathlib.Core.Path.{◌≡◌, refl, sym, ap, ap₂, subst, ◌∙◌}
-use mathlib.Core.Bool.{Bool, true, false}
+use mathlib.Core.Bool.{true}
 use mathlib.Core.List.{List, [], ◌∷◌, ◌++◌}
-use Prim.Native.Nat.{ℕ, ◌+◌, ◌/◌, ◌%◌, ◌≤◌, ◌<◌}
+use Prim.Native.Nat.{ℕ}
 use native.Mathlib.Omega.{arith}
-use borrow.Author.Tests.{leb-true, leb-false}
-use lib.Dec.{leb}
 use Rattle.text.specs.Utf8.{is_scalar, all_scalars, encoded, encoded_all, Octets}
 use Rattle.text.specs.Utf8.Octets.{none, utf8_1, utf8_2, utf8_3_e0, utf8_3_e1, utf8_3_ed, utf8_3_ee, utf8_4_f0, utf8_4_f1, utf8_4_f4}
 use Rattle.text.specs.Reader.{is_utf8, scalars}
 use Rattle.text.specs.Rfc3629.{Written, AsRfc3629}
 use Rattle.arithmetic.proofs.BoolLaws.{and_left, and_right, and_both}
-use Rattle.text.proofs.Scalars.{scalar_top, scalar_gap, scalar_low, scalar_high, encoded_one, encoded_two, encoded_three, encoded_four, Size, size_of}
-use Rattle.text.proofs.Scalars.Size.{of_one, of_two, of_three, of_four}
+use Rattle.text.proofs.Scalars.{scalar_low, scalar_high, encoded_one}
+use Rattle.text.proofs.Alternatives.{character_is_an_alternative}
 use Rattle.text.proofs.Sound.{read_writes, read_scalars, two_good, three_bytes, four_good}
 use Rattle.text.proofs.Complete.{written_well, written_reads}
 use Rattle.text.proofs.Order.{characters_sort_as_codes, texts_sort_as_their_codes}
-
--- a character's bytes before a string of the grammar
-module _ (c : ℕ) (h : is_scalar c ≡ true) (s : List ℕ) (o : Octets s) where
-  three : (t u v : Bool) → leb 0x1000 c ≡ t → leb 0xD000 c ≡ u → leb 0xE000 c ≡ v → 0x7FF < c → c ≤ 0xFFFF
-      → Octets ((0xE0 + c / 4096) ∷ (0x80 + c / 64 % 64) ∷ (0x80 + c % 64) ∷ s)
-  three false u v et eu ev l k =
-      let m = leb-false 0x1000 c et in utf8_3_e0 {a = 0xE0 + c / 4096} {b = 0x80 + c / 64 % 64} {c = 0x80 + c % 64} (omega arith) (omega arith) (omega arith) o
-  three true false v et eu ev l k =
-      let m = leb-true 0x1000 c et in let n = leb-false 0xD000 c eu in utf8_3_e1 {a = 0xE0 + c / 4096} {b = 0x80 + c / 64 % 64} {c = 0x80 + c % 64} (omega arith) (omega arith) (omega arith) o
-  three true true false et eu ev l k =
-      let m = leb-true 0xD000 c eu in
-      let n = leb-false 0xE000 c ev in
-      let low : c < 0xD800 = below (leb 0xD800 c) refl n in
-      utf8_3_ed {a = 0xE0 + c / 4096} {b = 0x80 + c / 64 % 64} {c = 0x80 + c % 64} (omega arith) (omega arith) (omega arith) o
-    where
-      below : (t : Bool) → leb 0xD800 c ≡ t → c < 0xE000 → c < 0xD800
-      below true e n = absurd (omega (arith, scalar_gap c h (leb-true 0xD800 c e)))
-      below false e n = leb-false 0xD800 c e
-  three true true true et eu ev l k =
-      let m = leb-true 0xE000 c ev in utf8_3_ee {a = 0xE0 + c / 4096} {b = 0x80 + c / 64 % 64} {c = 0x80 + c % 64} (omega arith) (omega arith) (omega arith) o
-
-  four : (t u : Bool) → leb 0x40000 c ≡ t → leb 0x100000 c ≡ u → 0xFFFF < c → c ≤ 0x10FFFF
-      → Octets ((0xF0 + c / 262144) ∷ (0x80 + c / 4096 % 64) ∷ (0x80 + c / 64 % 64) ∷ (0x80 + c % 64) ∷ s)
-  four false u et eu l k =
-      let m = leb-false 0x40000 c et in utf8_4_f0 {a = 0xF0 + c / 262144} {b = 0x80 + c / 4096 % 64} {c = 0x80 + c / 64 % 64} {d = 0x80 + c % 64} (omega arith) (omega arith) (omega arith) (omega arith) o
-  four true false et eu l k =
-      let m = leb-true 0x40000 c et in let n = leb-false 0x100000 c eu in utf8_4_f1 {a = 0xF0 + c / 262144} {b = 0x80 + c / 4096 % 64} {c = 0x80 + c / 64 % 64} {d = 0x80 + c % 64} (omega arith) (omega arith) (omega arith) (omega arith) o
-  four true true et eu l k =
-      let m = leb-true 0x100000 c eu in utf8_4_f4 {a = 0xF0 + c / 262144} {b = 0x80 + c / 4096 % 64} {c = 0x80 + c / 64 % 64} {d = 0x80 + c % 64} (omega arith) (omega arith) (omega arith) (omega arith) o
-
-  pub character_is_an_alternative : Octets (encoded c ++ s)
-  character_is_an_alternative = by_size (size_of c)
-    where
-      by_size : Size c → Octets (encoded c ++ s)
-      by_size (of_one m) = rw (encoded_one c m) (utf8_1 {a = c} (omega arith) o)
-      by_size (of_two l m) = rw (encoded_two c l m) (utf8_2 {a = 0xC0 + c / 64} {b = 0x80 + c % 64} (omega arith) (omega arith) o)
-      by_size (of_three l m) = rw (encoded_three c l m) (three (leb 0x1000 c) (leb 0xD000 c) (leb 0xE000 c) refl refl refl l m)
-      by_size (of_four l) = rw (encoded_four c l) (four (leb 0x40000 c) (leb 0x100000 c) refl refl l (scalar_top c h))
 
 encodings_are_octets : (cs : List ℕ) → all_scalars cs ≡ true → Octets (encoded_all cs)
 unfolding encoded_all all_scalars
