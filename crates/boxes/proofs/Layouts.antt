@@ -5,4 +5,3 @@ pub mod PassSteps
 pub mod Passes
 pub mod Placing
 pub mod Sharing
-pub mod SlottedOrders

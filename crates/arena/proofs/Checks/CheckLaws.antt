@@ -1,5 +1,5 @@
 -- Checks over a list by its index: what is left to check from here gives the whole. Assumes nothing.
-use Rattle.std.proofs.Common.{◌≡◌, ℕ, suc, ◌+◌, ◌-◌, ◌<◌, ◌≤◌, Bool, true, false, ◌&&◌, eqb, List, [], ◌∷◌, length, get_or, ap, ◌∙◌, arith}
+use Rattle.std.proofs.Common.{◌≡◌, ℕ, suc, ◌+◌, ◌-◌, ◌<◌, Bool, true, false, ◌&&◌, eqb, List, [], ◌∷◌, length, get_or, ap, ◌∙◌, arith}
 use mathlib.Core.Bool.{and_assoc}
 use Rattle.arithmetic.specs.Tests.{same, head_or, from_to, all}
 use Rattle.arena.specs.Slots.{NIL, Slots, at, chain, order}

@@ -30,11 +30,11 @@ use Rattle.boxes.proofs.Styles.WearLaws.{a_stored_layout_is_there, other_layouts
 
 pub as_many_boxes_as_children : (s : Style) (r : Rect) (cs : List Child) → length (place s r cs) ≡ length cs
 unfolding place boxes
-as_many_boxes_as_children s r cs = boxes_length s _ _ _ _ _ cs
+as_many_boxes_as_children s r cs = boxes_length s _ _ _ cs _ _
   where
-    boxes_length : (s : Style) (cx cy inner cursor : ℤ) (shares : List ℤ) (cs : List Child) → length (boxes s cx cy inner cursor shares cs) ≡ length cs
-    boxes_length s cx cy inner cursor shares [] = refl
-    boxes_length s cx cy inner cursor shares (c ∷ cs) = ap suc (boxes_length s cx cy inner _ _ cs)
+    boxes_length : (s : Style) (cx cy inner : ℤ) (cs : List Child) (cursor : ℤ) (shares : List ℤ) → length (boxes s cx cy inner cursor shares cs) ≡ length cs
+    boxes_length s cx cy inner [] cursor shares = refl
+    boxes_length s cx cy inner (c ∷ cs) cursor shares = ap suc (boxes_length s cx cy inner cs _ _)
 
 -- ---- what the arrays hold
 

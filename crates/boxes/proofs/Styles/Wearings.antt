@@ -1,17 +1,13 @@
--- What wearing and baring do past the slots, and slot after slot; slots in turn. Assumes nothing.
-use mathlib.Core.Path.{◌≡◌, refl, sym, ap, ◌∙◌}
+-- What wearing and baring do past the slots, and slot after slot. Assumes nothing.
+use mathlib.Core.Path.{◌≡◌, refl, sym, ◌∙◌}
 use mathlib.Core.Bool.{Bool, true, false, ◌||◌, cond}
-use mathlib.Core.List.{List, [], ◌∷◌, ◌++◌, append-nil, append_assoc}
-use Prim.Native.Nat.{ℕ, zero, suc, ◌+◌, ◌≤◌, ◌<◌}
-use native.Mathlib.Omega.{arith}
-use borrow.Author.Tests.{lt-ltb}
-use lib.Dec.{ltb}
-use lib.ListN.{length, get_or, set, take, length-set, get_or-eq_default}
-use lib.Seq.{set_out, take-suc-set}
+use mathlib.Core.List.{List, [], ◌∷◌, ◌++◌, append-nil}
+use Prim.Native.Nat.{ℕ, ◌+◌, ◌≤◌}
+use lib.ListN.{length, set, length-set, get_or-eq_default}
+use lib.Seq.{set_out}
 use Rattle.arithmetic.specs.Tests.{same}
 use Rattle.boxes.specs.Styles.{no_state, no_style, no_patch, layout_at, state_at, bare_state}
 use Rattle.boxes.specs.States.{Appearance, wearing, with_style, wear, patch_style, entry_of, touches, bared, wear_all}
-use Rattle.arena.specs.Slots.{backwards}
 use Rattle.boxes.specs.declared.StatePatch.{StatePatch}
 use Rattle.boxes.specs.declared.StateSlot.{StateSlot}
 use Rattle.boxes.specs.declared.LayoutSlot.{LayoutSlot}
@@ -73,33 +69,6 @@ all_lengths p bits k (i ∷ is) =
     let b = wear_lengths p k i (bits i) in
     (a.0 ∙ b.0, a.1 ∙ b.1)
 
-at_most_three : (n a b c : ℕ) → (cond (ltb 2 n) (c ∷ []) [] ++ cond (ltb 1 n) (b ∷ []) []) ++ cond (ltb 0 n) (a ∷ []) [] ≡ backwards (take n (a ∷ b ∷ c ∷ []))
-at_most_three zero a b c = refl
-at_most_three (suc zero) a b c = refl
-at_most_three (suc (suc zero)) a b c = refl
-at_most_three (suc (suc (suc zero))) a b c = refl
-at_most_three (suc (suc (suc (suc n)))) a b c =
-    rw (lt-ltb 2 (suc (suc (suc (suc n)))) (omega arith), lt-ltb 1 (suc (suc (suc (suc n)))) (omega arith), lt-ltb 0 (suc (suc (suc (suc n)))) (omega arith)) refl
-
-backs : (l : List ℕ) (n : ℕ) → length l ≡ 3
-    → (cond (ltb 2 n) (get_or l 2 0 ∷ []) [] ++ cond (ltb 1 n) (get_or l 1 0 ∷ []) []) ++ cond (ltb 0 n) (get_or l 0 0 ∷ []) [] ≡ backwards (take n l)
-backs [] n h = absurd (omega arith)
-backs (a ∷ []) n h = absurd (omega arith)
-backs (a ∷ b ∷ []) n h = absurd (omega arith)
-backs (a ∷ b ∷ c ∷ []) n h = at_most_three n a b c
-backs (a ∷ b ∷ c ∷ d ∷ l) n h = absurd (omega arith)
-
--- ---- slots in turn
-pub turn_more : (l : List ℕ) (n i : ℕ) → n < length l → take (n + 1) (set l n i) ≡ take n l ++ (i ∷ [])
-turn_more l n i h = let e : n + 1 ≡ suc n = omega arith in ap (λ (m : ℕ). take m (set l n i)) e ∙ take-suc-set l n i h
-
+-- nothing more in turn
 pub no_more : (l : List ℕ) → l ≡ l ++ []
 no_more l = sym (append-nil l)
-
-pub stated_back : (l : List ℕ) (n : ℕ) {a b c : List ℕ} → length l ≡ 3 → a ≡ [] ++ cond (ltb 2 n) (get_or l 2 0 ∷ []) [] → b ≡ a ++ cond (ltb 1 n) (get_or l 1 0 ∷ []) []
-    → c ≡ b ++ cond (ltb 0 n) (get_or l 0 0 ∷ []) [] → c ≡ backwards (take n l)
-stated_back l n h a b c = rw (c, b, a) (backs l n h)
-
--- four lists, each behind those before it
-pub four : (x y z : List ℕ) {t a b c s : List ℕ} → t ≡ s → a ≡ t ++ x → b ≡ a ++ y → c ≡ b ++ z → c ≡ s ++ (x ++ y ++ z)
-four x y z {s = s} e a b c = rw (c, b, a, e) (ap (λ (l : List ℕ). l ++ z) (append_assoc s x y) ∙ append_assoc s (x ++ y) z)

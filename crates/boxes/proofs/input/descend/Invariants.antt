@@ -1,18 +1,8 @@
 -- What is left of the children gives the last of them, and what is left of the way down the whole way. Assumes nothing.
-use mathlib.Core.List.{[]}
-use mathlib.Core.Logic.{⊎_elim}
-use mathlib.Core.Path.{◌≡◌, refl, sym, ap, ◌∙◌}
-use Prim.Native.Nat.{◌+◌, ◌-◌, ◌*◌, ◌%◌, ◌<◌}
-use native.Mathlib.Omega.{arith}
-use Rattle.arena.specs.Slots.{at, chain, kids_at}
-use Rattle.boxes.specs.Styles.{layout_at}
+use mathlib.Core.Path.{◌≡◌}
+use Prim.Native.Nat.{◌+◌, ◌*◌, ◌<◌}
+use Rattle.arena.specs.Slots.{chain, kids_at}
 use Rattle.boxes.specs.Hit.{last_of, descend, holds_at}
-use Rattle.arena.proofs.Forests.ChainLaws.{chain_none, chain_spent}
-use Rattle.boxes.proofs.Hits.HitSteps.{descend_stays, descend_more, descend_ends, kids_whole, last_more, last_end, picked_small}
-use borrow.Author.Rules.{rules}
-use Rattle.boxes.proofs.input.descend.Reads as reads
-use Rattle.boxes.proofs.input.descend.Lts as lts
-use Rattle.boxes.proofs.input.held.Reads as held_reads
 use Rattle.boxes.proofs.input.descend.Given as goal
 
 abbrev pub invariant-loop-down : goal.invariant-loop-down

@@ -1,20 +1,9 @@
 -- What is left of the order, arranged from here, gives the whole; so it is with what is left of a node's children, summed and then placed. Assumes nothing.
-use Rattle.boxes.proofs.Layouts.Placing.{no_grows}
-use lib.ListN.{take, drop, get_or}
-use native.Mathlib.Omega.{arith}
-use Prim.Native.Nat.{ℕ, ◌+◌, ◌-◌, ◌≤◌}
-use mathlib.Core.List.{List, map}
-use mathlib.Core.Path.{◌≡◌, refl, ◌∙◌, ap}
-use borrow.Author.Rules.{rules}
-use Rattle.boxes.proofs.Layouts.Passes.{arranged_none, arranged_more}
-use Rattle.boxes.proofs.Layouts.PassSteps.{goes_on, slot_of, summing_done, Gathering, gathering_more, gathering_done, Boxing, boxing_more, boxing_done, arranged, arranged_leaf}
-use Rattle.boxes.proofs.Layouts.Sharing.{placed_by_parts}
-use Rattle.arithmetic.proofs.Signs.{back, said}
-use Rattle.boxes.specs.declared.LayoutSlot.{LayoutSlot}
-use Rattle.boxes.specs.Support.Views.{no_shares}
-use Rattle.boxes.specs.Styles.{layout_at}
-use Rattle.arena.specs.Slots.{kids_at, at}
-use Rattle.boxes.specs.Layout.{arrange_all, offset, seen, Child}
+use lib.ListN.{take, drop}
+use Prim.Native.Nat.{◌-◌, ◌≤◌}
+use mathlib.Core.Path.{◌≡◌}
+use Rattle.boxes.proofs.Layouts.PassSteps.{Gathering, Boxing}
+use Rattle.boxes.specs.Layout.{arrange_all}
 use Rattle.boxes.proofs.layout.arrange_all.Given as goal
 
 abbrev pub invariant-loop-child : goal.invariant-loop-child

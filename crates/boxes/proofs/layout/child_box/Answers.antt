@@ -8,4 +8,4 @@ use Rattle.boxes.proofs.layout.child_box.Goals as goal
 pub returns : goal.returns
 unfolding box_at
 returns c = let a = c.args in let o = c.offset in let f = c.saturating_sub-free in let u = c.outer-o in
-    rw (← u.ensures, c.boxed.ensures, said o.result o.type-inv o.ensures, said f.result f.type-inv f.ensures, to_z-of_z c.ranges.growth, back a.run.cross c.struct_told-1.given.1.0.1, back u.result.cross c.struct_told-2-1.given.1.0.1, back a.run.main c.struct_told-3-1.given.0.1)
+    rw (← u.ensures, c.boxed.ensures, said o.result o.type_inv o.ensures, said f.result f.type_inv f.ensures, to_z-of_z c.ranges.growth, back a.run.cross (search rules), back u.result.cross (search rules), back a.run.main (search rules))

@@ -19,4 +19,4 @@ returns c = λ cs sums. let a = c.args in
     let same : length cs ≡ a.count = sym sums.1 in
     let k = c.saturating_add in
     let g = c.gap_times-gaps in
-    rw (content_of_many a.style cs many, same, ← sums.0, said k.result k.type-inv k.ensures, said g.result g.type-inv g.ensures) (search rules)
+    rw (content_of_many a.style cs many, same, ← sums.0, said k.result k.type_inv k.ensures, said g.result g.type_inv g.ensures) (search rules)

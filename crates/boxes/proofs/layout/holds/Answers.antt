@@ -6,5 +6,5 @@ use Rattle.boxes.proofs.layout.holds.Goals as goal
 
 pub returns : goal.returns
 unfolding holds
-returns c = let x = c.?from_int_lem in let y = c.from_int-py in
-    rw (c.spans-across.ensures, c.spans-down.ensures, said x.result x.type-inv x.ensures, said y.result y.type-inv y.ensures) (search rules)
+returns c = let x = c.from_int-px in let y = c.from_int-py in
+    rw (c.spans-across.ensures, c.spans-down.ensures, said x.result x.type_inv x.ensures, said y.result y.type_inv y.ensures) (search rules)

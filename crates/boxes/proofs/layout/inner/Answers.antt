@@ -8,4 +8,4 @@ use Rattle.boxes.proofs.layout.inner.Goals as goal
 pub returns : goal.returns
 unfolding inner_of
 returns c = let x = c.narrowed-width in let y = c.narrowed-height in
-    c.axes.ensures ∙ rw (said x.result x.type-inv x.ensures, said y.result y.type-inv y.ensures) (search rules)
+    c.axes.ensures ∙ rw (said x.result x.type_inv x.ensures, said y.result y.type_inv y.ensures) (search rules)

@@ -12,6 +12,6 @@ use Rattle.boxes.proofs.layout.leftover_of.Goals as goal
 
 pub returns : goal.returns
 returns c = λ cs sums. let a = c.args in let k = c.saturating_sub in let room = c.inner-room in let content = c.content_extent-content in
-    said k.result k.type-inv k.ensures
-    ∙ ap (λ (z : ℤ). sub_sat z (to_z w64 (of_z w64 content.result.main))) (back room.result.main c.struct_told-1.given.0.1 ∙ ap (λ (x : Axes). x.main) room.ensures)
-    ∙ ap (λ (z : ℤ). sub_sat (inner_of a.style.direction a.style.padding a.rect).main z) (back content.result.main c.struct_told-2-1.given.0.1 ∙ ap (λ (x : Axes). x.main) (content.ensures cs sums))
+    said k.result k.type_inv k.ensures
+    ∙ ap (λ (z : ℤ). sub_sat z (to_z w64 (of_z w64 content.result.main))) (back room.result.main (search rules) ∙ ap (λ (x : Axes). x.main) room.ensures)
+    ∙ ap (λ (z : ℤ). sub_sat (inner_of a.style.direction a.style.padding a.rect).main z) (back content.result.main (search rules) ∙ ap (λ (x : Axes). x.main) (content.ensures cs sums))

@@ -1,16 +1,9 @@
 -- The slots passed, from the last on, are measured; the index falls. Along a node's children what is left of the sum gives the whole. Assumes nothing.
-use lib.ListN.{take, drop, get_or}
-use native.Mathlib.Omega.{arith}
+use lib.ListN.{take, drop}
 use Prim.Native.Nat.{◌-◌, ◌≤◌}
-use mathlib.Core.List.{List}
-use mathlib.Core.Path.{◌≡◌, refl, ◌∙◌, ap}
-use borrow.Author.Rules.{rules}
-use Rattle.boxes.proofs.Layouts.Passes.{measured_none, measured_more}
-use Rattle.boxes.proofs.Layouts.PassSteps.{goes_on, slot_of, Summing, summing_more, summing_done, measured}
-use Rattle.boxes.specs.declared.LayoutSlot.{LayoutSlot}
-use Rattle.boxes.specs.Styles.{layout_at}
-use Rattle.arena.specs.Slots.{kids_at, at}
-use Rattle.boxes.specs.Layout.{measure_all, measure_at}
+use mathlib.Core.Path.{◌≡◌}
+use Rattle.boxes.proofs.Layouts.PassSteps.{Summing}
+use Rattle.boxes.specs.Layout.{measure_all}
 use Rattle.boxes.proofs.layout.measure_all.Given as goal
 
 abbrev pub invariant-loop-child : goal.invariant-loop-child

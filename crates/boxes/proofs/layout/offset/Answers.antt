@@ -4,7 +4,6 @@ use lib.IntN.{pos}
 use lib.Signed.{le_z}
 use mathlib.Core.Bool.{true, false}
 use mathlib.Core.Path.{◌≡◌}
-use borrow.Author.Rules.{rules}
 use Rattle.arithmetic.proofs.Signs.{said}
 use Rattle.boxes.specs.Layout.{offset}
 use Rattle.boxes.proofs.layout.offset.Goals as goal
@@ -17,14 +16,14 @@ returns-then-free-le0 c = let h : le_z c.args.free (pos 0) ≡ true = simp (to_z
 pub returns-in-Start : goal.returns-in-Start
 unfolding offset
 returns-in-Start c = let h : le_z c.args.free (pos 0) ≡ false = simp (to_z-of_z c.ranges.free) at c.if-free-le0.false in
-    rw (h, c.enum_told-1.given.1)
+    rw (h, c.in-Start.is)
 
 pub returns-in-Center : goal.returns-in-Center
 unfolding offset
 returns-in-Center c = let h : le_z c.args.free (pos 0) ≡ false = simp (to_z-of_z c.ranges.free) at c.if-free-le0.false in
-    rw (h, said c.half.result c.half.type-inv c.half.ensures, to_z-of_z c.ranges.free, c.enum_told-in-Center-1.given.1)
+    rw (h, said c.half.result c.half.type_inv c.half.ensures, to_z-of_z c.ranges.free, c.in-Center.is)
 
 pub returns-in-End : goal.returns-in-End
 unfolding offset
 returns-in-End c = let h : le_z c.args.free (pos 0) ≡ false = simp (to_z-of_z c.ranges.free) at c.if-free-le0.false in
-    rw (h, to_z-of_z c.ranges.free, c.enum_told-in-End-1.given.1)
+    rw (h, to_z-of_z c.ranges.free, c.in-End.is)

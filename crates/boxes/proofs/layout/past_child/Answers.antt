@@ -8,6 +8,6 @@ use Rattle.boxes.proofs.layout.past_child.Goals as goal
 pub returns : goal.returns
 unfolding past_of
 returns c = let a = c.args in let k = c.saturating_add in let w = c.widened-sum in let u = c.outer-o in (
-  rw (← u.ensures, said k.result k.type-inv k.ensures, said w.result w.type-inv w.ensures, to_z-of_z c.ranges.growth, back a.run.main c.struct_told-1.given.0.1, back u.result.main c.struct_told-2-1.given.0.1, back a.style.gap c.struct_told-3-1.given.1.1.1.1.1.0.1),
-  back a.run.cross c.struct_told-4-1.given.1.0.1,
+  rw (← u.ensures, said k.result k.type_inv k.ensures, said w.result w.type_inv w.ensures, to_z-of_z c.ranges.growth, back a.run.main (search rules), back u.result.main (search rules), back a.style.gap (search rules)),
+  back a.run.cross (search rules),
 )

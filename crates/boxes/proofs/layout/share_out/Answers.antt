@@ -6,7 +6,6 @@ use lib.Signed.{le_z}
 use mir.Facts.{to_z-of_z}
 use Rattle.arithmetic.specs.Growth.{plan_growth}
 use Rattle.boxes.proofs.Layouts.Sharing.{no_plan_of_no_leftover, no_plan_of_no_grow, free_of_no_plan, free_of_plan}
-use borrow.Author.Rules.{rules}
 use Rattle.boxes.proofs.layout.share_out.Goals as goal
 
 pub returns-then-leftover-le0 : goal.returns-then-leftover-le0

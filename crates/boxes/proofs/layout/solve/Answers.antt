@@ -7,7 +7,6 @@ use Prim.Native.Nat.{ℕ}
 use mathlib.Core.List.{List, [], ◌∷◌}
 use mathlib.Core.Path.{◌≡◌, ◌∙◌, ap}
 use borrow.Author.Rules.{rules}
-use Rattle.boxes.proofs.Layouts.SlottedOrders.{order_slotted, root_slotted}
 use Rattle.arithmetic.proofs.Signs.{back}
 use Rattle.boxes.specs.declared.LayoutSlot.{LayoutSlot}
 use Rattle.boxes.specs.Layout.{measure_all, arrange_all, with_rect, view_rect, passed}
@@ -15,22 +14,16 @@ use Rattle.boxes.specs.Styles.{layout_at}
 use Rattle.arena.specs.Slots.{order}
 use Rattle.boxes.proofs.layout.solve.Goals as goal
 
-pub measure_all-out-requires : goal.measure_all-out-requires
-measure_all-out-requires c = let o = c.reach_root-reached in (o.ensures.0, rw o.ensures.2 (order_slotted 128 c.args.slots (0 ∷ []) root_slotted))
-
-pub arrange_all-requires : goal.arrange_all-requires
-arrange_all-requires c = let o = c.reach_root-reached in (o.ensures.0, rw o.ensures.2 (order_slotted 128 c.args.slots (0 ∷ []) root_slotted))
-
 pub returns : goal.returns
 unfolding layout_at passed
-returns c = let a = c.args in let o = c.reach_root-reached in let m = c.?measure_all_lem in let w = c.with_rect in
+returns c = let a = c.args in let o = c.reach_root-reached in let m = c.measure_all-out in let w = c.with_rect in
     let all : List ℕ = order 128 a.slots (0 ∷ []) in
     let is : take o.result.count o.result.items ≡ all = o.ensures.2 in
     let box : w.result ≡ with_rect (layout_at m.result 0) (view_rect a.view) =
     w.ensures
-    ∙ ap (λ (z : ℤ). with_rect (layout_at m.result 0) (record { x = pos 0; y = pos 0; width = z; height = to_z w64 (of_z w64 a.view.height) })) (back a.view.width c.struct_told-1.given.0.1)
-    ∙ ap (λ (z : ℤ). with_rect (layout_at m.result 0) (record { x = pos 0; y = pos 0; width = a.view.width; height = z })) (back a.view.height c.struct_told-1.given.1.0.1) in
-    c.?arrange_all_lem.ensures
+    ∙ ap (λ (z : ℤ). with_rect (layout_at m.result 0) (record { x = pos 0; y = pos 0; width = z; height = to_z w64 (of_z w64 a.view.height) })) (back a.view.width (search rules))
+    ∙ ap (λ (z : ℤ). with_rect (layout_at m.result 0) (record { x = pos 0; y = pos 0; width = a.view.width; height = z })) (back a.view.height (search rules)) in
+    c.arrange_all.ensures
     ∙ ap (λ (l : List ℕ). arrange_all a.slots (set m.result 0 w.result) l) is
     ∙ ap (λ (x : LayoutSlot). arrange_all a.slots (set m.result 0 x) all) box
     ∙ ap (λ (l : List LayoutSlot). arrange_all a.slots (set l 0 (with_rect (layout_at l 0) (view_rect a.view))) all) (m.ensures ∙ ap (λ (l : List ℕ). measure_all a.slots a.layout l) is)

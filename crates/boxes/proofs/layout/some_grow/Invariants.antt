@@ -1,11 +1,7 @@
 -- None of the grows passed is more than 0. Assumes nothing.
 use Prim.Native.Nat.{ℕ, ◌-◌, ◌≤◌, ◌<◌}
 use mathlib.Core.Path.{◌≡◌}
-use native.Mathlib.Omega.{arith}
-use borrow.Author.Count.{below_more}
-use borrow.Author.Rules.{rules}
 use lib.ListN.{get_or}
-use Rattle.boxes.proofs.Layouts.Sharing.{some_grows, none_grows}
 use Rattle.boxes.proofs.layout.some_grow.Given as goal
 
 abbrev pub invariant-loop-n : goal.invariant-loop-n

@@ -7,4 +7,4 @@ use Rattle.boxes.proofs.layout.want.Goals as goal
 pub returns : goal.returns
 unfolding want
 returns c = λ cs sums. let w = c.wanted in let h = c.wanted-2 in
-    rw (← c.content_extent-c.ensures cs sums, ← c.turned-e.ensures, said w.result w.type-inv w.ensures, said h.result h.type-inv h.ensures) (search rules)
+    rw (← c.content_extent-c.ensures cs sums, ← c.turned-e.ensures, said w.result w.type_inv w.ensures, said h.result h.type_inv h.ensures) (search rules)

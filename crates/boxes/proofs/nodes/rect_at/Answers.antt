@@ -8,6 +8,10 @@ use Rattle.boxes.specs.declared.LayoutSlot.{LayoutSlot}
 use borrow.Author.Rules.{rules}
 use Rattle.boxes.proofs.nodes.rect_at.Goals as goal
 
+pub returns-then-i-lt128 : goal.returns-then-i-lt128
+unfolding layout_at
+returns-then-i-lt128 c = search rules
+
 pub returns : goal.returns
 unfolding layout_at
 returns c = let h : length c.args.layout ≡ 128 = search rules in let k : length c.args.layout ≤ c.args.i = omega arith in sym (ap (λ (l : LayoutSlot). l.rect) (get_or-eq_default c.args.layout no_layout k))

@@ -1,25 +1,11 @@
-use mathlib.Core.Path.{◌≡◌, refl, sym, ◌∙◌}
-use Prim.Native.Nat.{ℕ, ◌-◌, ◌≤◌, ◌<◌}
+use mathlib.Core.Path.{◌≡◌, sym, ◌∙◌}
+use Prim.Native.Nat.{◌<◌}
 use native.Mathlib.Omega.{arith}
 use borrow.Author.Rules.{rules}
-use lib.ListN.{length, get_or, length-set}
 use lib.Seq.{ext_get_or}
-use borrow.Author.Count.{below_none}
-use Rattle.arithmetic.proofs.Sums.{filled_one_further}
-use Rattle.arena.specs.Slots.{at, no_slot, new_slot, new_slots}
+use Rattle.arena.specs.Slots.{at, no_slot, new_slots}
 use Rattle.arena.proofs.Forests.Starts.{new_length, slot_at}
 use Rattle.boxes.proofs.start.new_slots.Goals as goal
-
-pub loop-i-init : goal.loop-i-init
-loop-i-init c = (omega arith, refl, below_none _)
-
-pub loop-i-preserved : goal.loop-i-preserved
-loop-i-preserved c =
-    let l = c.loop-i in (
-      search rules,
-      length-set l.out l.i _ ∙ l.invariant.1,
-      filled_one_further (new_slot c.args.n) l.out l.i _ no_slot (omega arith) c.new_slot.ensures l.invariant.2,
-    )
 
 pub returns : goal.returns
 unfolding at

@@ -1,14 +1,8 @@
 -- Slots are filled one by one. The loop's invariant: the places passed hold theirs. Assumes nothing.
-use mathlib.Core.Path.{◌≡◌, refl, sym, ◌∙◌}
+use mathlib.Core.Path.{◌≡◌}
 use Prim.Native.Nat.{ℕ, ◌-◌, ◌≤◌, ◌<◌}
-use native.Mathlib.Omega.{arith}
-use borrow.Author.Rules.{rules}
-use lib.ListN.{length, get_or, length-set}
-use lib.Seq.{ext_get_or}
-use borrow.Author.Count.{below_none}
-use Rattle.arithmetic.proofs.Sums.{filled_one_further}
-use Rattle.arena.specs.Slots.{at, no_slot, new_slot, new_slots}
-use Rattle.arena.proofs.Forests.Starts.{new_length, slot_at}
+use lib.ListN.{length, get_or}
+use Rattle.arena.specs.Slots.{no_slot, new_slot}
 use Rattle.boxes.proofs.start.new_slots.Given as goal
 
 abbrev pub invariant-loop-i : goal.invariant-loop-i

@@ -1,7 +1,6 @@
 -- The sum of the three bits is at most 7. Assumes nothing.
 use mathlib.Core.Path.{ap₂}
 use Prim.Native.Nat.{◌+◌}
-use borrow.Author.Rules.{rules}
 use Rattle.boxes.specs.States.{bits_of}
 use Rattle.boxes.proofs.state.bits_of.Goals as goal
 

@@ -4,4 +4,4 @@ use Rattle.boxes.proofs.Styles.Raws.{same_by_bits}
 use Rattle.boxes.proofs.state.same_size.Goals as goal
 
 pub returns-in-Px-b-2 : goal.returns-in-Px-b-2
-returns-in-Px-b-2 c = rw (c.a-1.given.1, c.b-1.given.1) (same_by_bits c.a-1.given.0.0 c.b-1.given.0.0 (search rules) (search rules))
+returns-in-Px-b-2 c = rw (c.in-Px.is, c.in-Px-b-2.is) (same_by_bits c.in-Px.m c.in-Px-b-2.n (search rules) (search rules))

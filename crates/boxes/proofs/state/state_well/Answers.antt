@@ -1,7 +1,6 @@
 -- The code's three tests are the definition's. Assumes nothing.
 use mathlib.Core.Path.{ap₂, ap}
 use mathlib.Core.Bool.{Bool, ◌&&◌}
-use borrow.Author.Rules.{rules}
 use lib.Dec.{leb}
 use Rattle.boxes.specs.States.{state_well}
 use Rattle.boxes.proofs.state.state_well.Goals as goal

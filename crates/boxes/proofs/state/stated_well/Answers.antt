@@ -1,7 +1,6 @@
 -- A case for each count. Assumes nothing.
-use native.Mathlib.Omega.{arith}
 use borrow.Author.Rules.{rules}
-use Rattle.arena.proofs.Checks.Stated.{none_is_stated, one_is_stated, two_are_stated, three_are_stated, more_are_not}
+use Rattle.arena.proofs.Checks.Stated.{none_is_stated, one_is_stated, two_are_stated, three_are_stated}
 use Rattle.boxes.proofs.state.stated_well.Goals as goal
 
 pub returns-in-0 : goal.returns-in-0
@@ -15,6 +14,3 @@ returns-in-2 c = two_are_stated c.args.stated c.args.limit c.args.count (search 
 
 pub returns-in-3 : goal.returns-in-3
 returns-in-3 c = three_are_stated c.args.stated c.args.limit c.args.count (search rules) (search rules)
-
-pub returns-in_default : goal.returns-in_default
-returns-in_default c = more_are_not c.args.stated c.args.limit c.args.count (omega arith)

@@ -1,14 +1,9 @@
 -- The slots from here to the limit pass just where all below it do. Assumes nothing.
-use mathlib.Core.Path.{◌≡◌, refl, ◌∙◌}
+use mathlib.Core.Path.{◌≡◌}
 use Prim.Native.Nat.{◌-◌, ◌≤◌}
-use native.Mathlib.Omega.{arith}
-use borrow.Author.Tests.{not-true, not_false}
-use borrow.Author.Rules.{rules}
 use lib.ListN.{length, drop, take}
-use Rattle.boxes.specs.Styles.{no_state}
 use Rattle.boxes.specs.States.{state_well}
 use Rattle.arithmetic.specs.Tests.{all}
-use Rattle.arithmetic.proofs.LoopLaws.{front_more, front_stop, front_whole, front_done}
 use Rattle.boxes.proofs.state.states_well.Given as goal
 
 abbrev pub invariant-loop-i : goal.invariant-loop-i

@@ -9,12 +9,12 @@ use Rattle.boxes.proofs.wearing.keep_live.Goals as goal
 pub returns-then-live : goal.returns-then-live
 unfolding live_slot kept_live same
 returns-then-live c =
-    (rw (c.id-1.given.1, ← c.is_live-live.ensures, c.if-live.true, ← c.bits_at-bits.ensures) c.keep.ensures.0, c.keep.ensures.1)
+    (rw (c.in-Present.is, ← c.is_live-live.ensures, c.if-live.true, ← c.bits_at-bits.ensures) c.keep.ensures.0, c.keep.ensures.1)
 
 pub returns-in-Absent : goal.returns-in-Absent
 unfolding live_slot kept_live
-returns-in-Absent c = (rw c.enum_told-1.given.1 refl, search rules)
+returns-in-Absent c = (rw c.in-Absent.is refl, search rules)
 
 pub returns-else-live : goal.returns-else-live
 unfolding live_slot kept_live
-returns-else-live c = (rw (c.id-1.given.1, ← c.is_live-live.ensures, c.if-live.false) refl, search rules)
+returns-else-live c = (rw (c.in-Present.is, ← c.is_live-live.ensures, c.if-live.false) refl, search rules)

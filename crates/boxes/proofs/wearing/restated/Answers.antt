@@ -4,9 +4,6 @@ use native.Mathlib.Omega.{arith}
 use lib.ListN.{length}
 use Rattle.boxes.proofs.Styles.Keeps.{three_kept, at_most_one}
 use borrow.Author.Rules.{rules}
-use Rattle.boxes.proofs.wearing.restated.Reads as reads
-use Rattle.boxes.proofs.wearing.restated.Lts as lts
-use Rattle.boxes.proofs.wearing.keep_live.Reads as keep-live-reads
 use Rattle.boxes.proofs.wearing.restated.Goals as goal
 
 pub returns : goal.returns

@@ -1,7 +1,0 @@
--- The two sums read back from their bits. Assumes nothing.
-use borrow.Author.Rules.{rules}
-use Rattle.arithmetic.proofs.Signs.{said}
-use Rattle.boxes.proofs.layout.content_corner.Goals as goal
-
-pub returns : goal.returns
-returns c = let k = c.saturating_add-2 in let j = c.saturating_add in (rw (said j.result j.type-inv j.ensures) (search rules), rw (said k.result k.type-inv k.ensures) (search rules))
