@@ -9,8 +9,8 @@ use Rattle.desk.proofs.metres.Goals as goal
 
 pub returns-in-Refused : goal.returns-in-Refused
 unfolding metres
-returns-in-Refused c = ap (λ (o : Outcome ℕ). o.answer) (a_read_is_refused c.args.u c.args.d _ _ _ (sym c.field_place.ensures ∙ c.word-1.given.1))
+returns-in-Refused c = ap (λ (o : Outcome ℕ). o.answer) (a_read_is_refused c.args.u c.args.d _ _ _ (sym c.field_place.ensures ∙ c.in-Refused.is))
 
 pub returns-in-At : goal.returns-in-At
 unfolding metres
-returns-in-At c = c.metres.ensures ∙ ap (λ (o : Outcome ℕ). o.answer) (a_read_finds_the_field c.args.u c.args.d _ _ _ (sym c.field_place.ensures ∙ c.i-1.given.1) c.field_at-f.ensures)
+returns-in-At c = c.metres.ensures ∙ ap (λ (o : Outcome ℕ). o.answer) (a_read_finds_the_field c.args.u c.args.d _ _ _ (sym c.field_place.ensures ∙ c.in-At.is) c.field_at-f.ensures)

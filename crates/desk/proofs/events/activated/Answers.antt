@@ -1,6 +1,5 @@
 -- Each part by its contract. Assumes nothing.
 use Rattle.desk.specs.Events.{activated}
-use borrow.Author.Rules.{rules}
 use Rattle.desk.proofs.events.activated.Goals as goal
 
 pub returns : goal.returns

@@ -7,19 +7,18 @@ use Rattle.tree.specs.Trees.{with_interaction, with_fields, with_event_parts}
 use Rattle.tree.specs.Types.{At}
 use Rattle.tree.proofs.Places.{the_place_is_changed}
 use Rattle.desk.specs.Events.{keyed_field, edit_fold}
-use borrow.Author.Rules.{rules}
 use Rattle.desk.proofs.events.edit_field.Goals as goal
 
 pub returns-in-Nowhere : goal.returns-in-Nowhere
 unfolding with_event_parts
-returns-in-Nowhere c = rw (← c.field_place.ensures.1, c.enum_told-1.given.1)
+returns-in-Nowhere c = λ u. rw (← c.field_place.ensures.1, c.in-Nowhere.is)
 
 pub returns-in-At : goal.returns-in-At
 unfolding with_interaction with_fields with_event_parts edit_fold
-returns-in-At c = let p = c.args.p in
+returns-in-At c = λ u. let p = c.args.p in
     let d = c.args.d in
     let key = c.args.key in
-    let i = c.i-1.given.0.0 in
-    let h : place_of d p.fields ≡ At i = sym c.field_place.ensures.0 ∙ c.i-1.given.1 in
+    let i = c.in-At.i in
+    let h : place_of d p.fields ≡ At i = sym c.field_place.ensures.0 ∙ c.in-At.is in
     let fs : c.with_field-next.result ≡ change_first (owns d) (keyed_field key) p.fields = c.with_field-next.ensures ∙ ap (set p.fields i) (c.keyed_field-g.ensures ∙ ap (keyed_field key) c.field_at-f.ensures) ∙ the_place_is_changed d (keyed_field key) p.fields i h in
-    rw (← c.field_place.ensures.1, c.i-1.given.1, ← fs, ← c.field_at-f.ensures, ← c.keyed_field-g.ensures, ← c.has_changed.ensures, ← c.folded-after.ensures)
+    rw (← c.field_place.ensures.1, c.in-At.is, ← fs, ← c.field_at-f.ensures, ← c.keyed_field-g.ensures, ← c.has_changed.ensures, ← c.folded-after.ensures)

@@ -5,22 +5,21 @@ use Rattle.tree.specs.Fields.{field_of}
 use Rattle.tree.specs.Trees.{with_event_parts}
 use Rattle.desk.specs.Events.{edit_field, edit_focused}
 use Rattle.desk.specs.Support.Parts.{with_parts, has_live}
-use borrow.Author.Rules.{rules}
 use Rattle.desk.proofs.events.edit_focused.Goals as goal
 
 pub returns-then-live : goal.returns-then-live
 unfolding with_event_parts
-returns-then-live c = let u = with_parts w c.args.p in
+returns-then-live c = λ w e. let u = with_parts w c.args.p in
     let key = c.args.key in
-    let d = c.focus-1.given.0.0 in
-    c.edit_field.ensures w ∙ ap (λ (b : Bool). cond b (edit_field u d key (field_of d u.fields)) u) (sym c.if-live.true ∙ e ∙ ap (has_live w) c.focus-1.given.1) ∙ ap (edit_focused u key) (sym c.focus-1.given.1)
+    let d = c.in-Present.d in
+    c.edit_field.ensures w ∙ ap (λ (b : Bool). cond b (edit_field u d key (field_of d u.fields)) u) (sym c.if-live.true ∙ e ∙ ap (has_live w) c.in-Present.is) ∙ ap (edit_focused u key) (sym c.in-Present.is)
 
 pub returns-in-Absent : goal.returns-in-Absent
-returns-in-Absent c = ap (edit_focused (with_parts w c.args.p) c.args.key) (sym c.enum_told-1.given.1)
+returns-in-Absent c = λ w e. ap (edit_focused (with_parts w c.args.p) c.args.key) (sym c.in-Absent.is)
 
 pub returns-else-live : goal.returns-else-live
 unfolding with_event_parts
-returns-else-live c = let u = with_parts w c.args.p in
+returns-else-live c = λ w e. let u = with_parts w c.args.p in
     let key = c.args.key in
-    let d = c.focus-1.given.0.0 in
-    ap (λ (b : Bool). cond b (edit_field u d key (field_of d u.fields)) u) (sym c.if-live.false ∙ e ∙ ap (has_live w) c.focus-1.given.1) ∙ ap (edit_focused u key) (sym c.focus-1.given.1)
+    let d = c.in-Present.d in
+    ap (λ (b : Bool). cond b (edit_field u d key (field_of d u.fields)) u) (sym c.if-live.false ∙ e ∙ ap (has_live w) c.in-Present.is) ∙ ap (edit_focused u key) (sym c.in-Present.is)

@@ -1,5 +1,4 @@
 -- By its test. Assumes nothing.
-use borrow.Author.Rules.{rules}
 use Rattle.desk.proofs.events.folded.Goals as goal
 
 pub returns-then-changed : goal.returns-then-changed

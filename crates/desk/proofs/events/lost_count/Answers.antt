@@ -1,7 +1,6 @@
 -- By its test. Assumes nothing.
 use Rattle.arithmetic.specs.Tests.{same}
 use borrow.Author.Tests.{ne_eqb}
-use borrow.Author.Rules.{rules}
 use Rattle.desk.proofs.events.lost_count.Goals as goal
 
 pub returns-then-lost-eq0 : goal.returns-then-lost-eq0

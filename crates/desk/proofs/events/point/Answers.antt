@@ -5,4 +5,4 @@ use Rattle.desk.proofs.events.point.Goals as goal
 
 pub returns : goal.returns
 unfolding with_interaction with_event_parts
-returns c = rw (to_z-of_z c.ranges.x, to_z-of_z c.ranges.y)
+returns c = λ u. rw (to_z-of_z c.ranges.x, to_z-of_z c.ranges.y)

@@ -1,6 +1,7 @@
 -- By the kind of the event. Assumes nothing.
 use mathlib.Core.Path.{◌∙◌}
 use mir.Syntax.{w32}
+use mir.Val.{SFits}
 use mir.ValLaws.{to_z-of_z}
 use Rattle.tree.specs.Trees.{with_interaction}
 use Rattle.boxes.specs.declared.Key.TheVariants.{Char, Op}
@@ -8,19 +9,22 @@ use Rattle.desk.proofs.EventLaws.{release_keeps_the_pointer, key_keeps_the_point
 use borrow.Author.Rules.{rules}
 use Rattle.desk.proofs.events.pointer_after.Goals as goal
 
-pub returns-in-PointerMoved : goal.returns-in-PointerMoved
-unfolding with_interaction
-returns-in-PointerMoved c = rw (c.event-1.given.1, to_z-of_z w32 c.event-1.given.0.0 (record { sfits = c.known_told-1.given.0.1 }), to_z-of_z w32 c.event-1.given.0.1.0 (record { sfits = c.known_told-1.given.1.0.1 }))
-
 pub returns-in-PointerPressed : goal.returns-in-PointerPressed
 unfolding with_interaction
-returns-in-PointerPressed c = rw c.enum_told-1.given.1 e
+returns-in-PointerPressed c = λ u hit e. rw c.in-PointerPressed.is e
 
 pub returns-in-PointerReleased : goal.returns-in-PointerReleased
-returns-in-PointerReleased c = rw c.enum_told-in-PointerReleased-1.given.1 (release_keeps_the_pointer u hit ∙ e)
+returns-in-PointerReleased c = λ u hit e. rw c.in-PointerReleased.is (release_keeps_the_pointer u hit ∙ e)
 
 pub returns-in-TextEntered : goal.returns-in-TextEntered
-returns-in-TextEntered c = rw c.enum_told-in-TextEntered-1.given.1 (key_keeps_the_pointer u (Char c.enum_told-in-TextEntered-1.given.0.0) ∙ e)
+returns-in-TextEntered c = λ u hit e. rw c.in-TextEntered.is (key_keeps_the_pointer u (Char c.in-TextEntered.ch) ∙ e)
 
 pub returns-in-Edit : goal.returns-in-Edit
-returns-in-Edit c = rw c.enum_told-in-Edit-1.given.1 (key_keeps_the_pointer u (Op c.enum_told-in-Edit-1.given.0.0) ∙ e)
+returns-in-Edit c = λ u hit e. rw c.in-Edit.is (key_keeps_the_pointer u (Op c.in-Edit.op) ∙ e)
+
+pub returns-in-PointerMoved : goal.returns-in-PointerMoved
+unfolding with_interaction
+returns-in-PointerMoved c = λ u hit e.
+    let x : SFits w32 c.in-PointerMoved.x = search rules in
+    let y : SFits w32 c.in-PointerMoved.y = search rules in
+    rw (c.in-PointerMoved.is, to_z-of_z w32 c.in-PointerMoved.x x, to_z-of_z w32 c.in-PointerMoved.y y)

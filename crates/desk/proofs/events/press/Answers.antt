@@ -5,4 +5,4 @@ use Rattle.desk.proofs.events.press.Goals as goal
 
 pub returns : goal.returns
 unfolding with_interaction with_event_parts
-returns c = refl
+returns c = λ u. refl

@@ -5,23 +5,22 @@ use Rattle.field.specs.declared.MaybeId.TheVariants.{Absent}
 use Rattle.tree.specs.Trees.{with_interaction, with_event_parts}
 use Rattle.desk.specs.Events.{pressed_on, activate, released_on}
 use Rattle.desk.specs.Support.Parts.{with_parts}
-use borrow.Author.Rules.{rules}
 use Rattle.desk.proofs.events.release.Goals as goal
 
 pub returns-then-is_id : goal.returns-then-is_id
 unfolding with_event_parts
-returns-then-is_id c = let u = with_parts w c.args.p in
+returns-then-is_id c = λ w e. let u = with_parts w c.args.p in
     let hit = c.args.hit in
-    let d = c.pressed-1.given.0.0 in
-    c.activate.ensures w e ∙ ap (λ (b : Bool). cond b (activate u d) (with_interaction u (pressed_on u.interaction Absent))) (sym c.if-is_id.true ∙ c.?is_the_id.ensures) ∙ ap (released_on u hit) (sym c.pressed-1.given.1)
+    let d = c.in-Present.d in
+    c.activate.ensures w e ∙ ap (λ (b : Bool). cond b (activate u d) (with_interaction u (pressed_on u.interaction Absent))) (sym c.if-is_id.true ∙ c.is_id.ensures) ∙ ap (released_on u hit) (sym c.in-Present.is)
 
 pub returns-in-Absent : goal.returns-in-Absent
 unfolding with_event_parts
-returns-in-Absent c = c.press.ensures w ∙ ap (released_on (with_parts w c.args.p) c.args.hit) (sym c.enum_told-1.given.1)
+returns-in-Absent c = λ w e. c.press.ensures w ∙ ap (released_on (with_parts w c.args.p) c.args.hit) (sym c.in-Absent.is)
 
 pub returns-else-is_id : goal.returns-else-is_id
 unfolding with_event_parts
-returns-else-is_id c = let u = with_parts w c.args.p in
+returns-else-is_id c = λ w e. let u = with_parts w c.args.p in
     let hit = c.args.hit in
-    let d = c.pressed-1.given.0.0 in
-    c.press-in-Present.ensures w ∙ ap (λ (b : Bool). cond b (activate u d) (with_interaction u (pressed_on u.interaction Absent))) (sym c.if-is_id.false ∙ c.?is_the_id.ensures) ∙ ap (released_on u hit) (sym c.pressed-1.given.1)
+    let d = c.in-Present.d in
+    c.press-in-Present.ensures w ∙ ap (λ (b : Bool). cond b (activate u d) (with_interaction u (pressed_on u.interaction Absent))) (sym c.if-is_id.false ∙ c.is_id.ensures) ∙ ap (released_on u hit) (sym c.in-Present.is)

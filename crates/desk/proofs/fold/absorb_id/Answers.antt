@@ -1,6 +1,5 @@
 -- Two runs of bytes, one after the other. Assumes nothing.
 use Rattle.desk.proofs.FoldSteps.{and_then}
-use borrow.Author.Rules.{rules}
 use Rattle.desk.proofs.fold.absorb_id.Goals as goal
 
 pub returns : goal.returns

@@ -3,7 +3,6 @@ use Rattle.desk.proofs.FoldSteps.{and_then}
 use mir.Facts.{to_z-of_z}
 use mathlib.Core.Path.{ap, ◌∙◌}
 use Rattle.arithmetic.specs.Scalar.{unsigned_of}
-use borrow.Author.Rules.{rules}
 use Rattle.desk.proofs.fold.absorb_pixel.Goals as goal
 
 pub returns : goal.returns

@@ -2,7 +2,6 @@
 use mathlib.Core.Path.{ap, ◌∙◌}
 use Rattle.arithmetic.specs.declared.fold.StateHash.{StateHash}
 use Rattle.desk.proofs.FoldSteps.{and_then}
-use borrow.Author.Rules.{rules}
 use Rattle.desk.proofs.fold.edit_fold.Goals as goal
 
 pub returns : goal.returns

@@ -1,9 +1,8 @@
 use mathlib.Core.Path.{◌≡◌, ◌∙◌}
-use Prim.Native.Nat.{◌+◌, ◌-◌, ◌≤◌}
+use Prim.Native.Nat.{◌-◌}
 use native.Mathlib.Omega.{arith}
 use borrow.Author.Rules.{rules}
-use lib.ListN.{length}
-use Rattle.desk.proofs.OutputSteps.{moved_up, nothing_moved, one_more_moved, all_moved}
+use Rattle.desk.proofs.OutputSteps.{nothing_moved, one_more_moved, all_moved}
 use Rattle.desk.proofs.outputs.moved_up.Goals as goal
 
 pub loop-j-init : goal.loop-j-init

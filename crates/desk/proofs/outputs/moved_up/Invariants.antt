@@ -1,10 +1,8 @@
 -- The first j are moved up. Assumes nothing.
-use mathlib.Core.Path.{◌≡◌, ◌∙◌}
+use mathlib.Core.Path.{◌≡◌}
 use Prim.Native.Nat.{◌+◌, ◌-◌, ◌≤◌}
-use native.Mathlib.Omega.{arith}
-use borrow.Author.Rules.{rules}
 use lib.ListN.{length}
-use Rattle.desk.proofs.OutputSteps.{moved_up, nothing_moved, one_more_moved, all_moved}
+use Rattle.desk.proofs.OutputSteps.{moved_up}
 use Rattle.desk.proofs.outputs.moved_up.Given as goal
 
 abbrev pub invariant-loop-j : goal.invariant-loop-j

@@ -1,6 +1,5 @@
 -- The outputs by the contract of the move. Assumes nothing.
 use Rattle.tree.specs.Trees.{with_waiting}
-use borrow.Author.Rules.{rules}
 use Rattle.desk.proofs.outputs.without_oldest.Goals as goal
 
 pub returns : goal.returns

@@ -32,8 +32,8 @@ loop-j-preserved-then-i-ge128 c =
     let ei : get_or t.items l.j 0 ≡ get_or (take t.count t.items) l.j 0 = sym (get_or-take t.count t.items l.j 0 c.loop-j-test.true) in
     let pools = look_pools u _ l.u l.invariant.3 in
     let g = look_lengths u hover (take t.count t.items) l.j l.u l.invariant.3 in
-    let x : length c.args.u.layout ≡ 128 = sym (length-map c.args.u.layout _) ∙ c.well_formed.0.1.1.1.0.1.0.1 in
-    let y : length c.args.u.states ≡ 128 = sym (length-map c.args.u.states _) ∙ c.well_formed.0.1.1.1.1.1.1.1.1.1.0.1.0.1 in (
+    let x : length c.args.u.layout ≡ 128 = c.well_formed.0.1.1.1.0.1.0.1 in
+    let y : length c.args.u.states ≡ 128 = c.well_formed.0.1.1.1.1.1.1.1.1.1.0.1.0.1 in (
       omega (arith, c.loop-j-test.true),
       l.invariant.1,
       l.invariant.2,
