@@ -6,6 +6,7 @@ pub mod Ranges
 pub mod Inserts
 pub mod Reading
 pub mod Spaces
+pub mod Pointed
 pub mod MetresLaws
 pub mod Blanks
 pub mod Parts

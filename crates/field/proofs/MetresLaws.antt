@@ -11,9 +11,10 @@ use Rattle.arithmetic.proofs.TestLaws.{bool_cases}
 use Rattle.text.specs.Steps.{front}
 use Rattle.text.specs.Refusal.{Answer, refused}
 use Rattle.text.specs.declared.refusal.Refusal.TheVariants.{Empty}
-use Rattle.field.specs.Metres.{is_digit, is_point, is_space, is_comma, behind, unread, plain_metres, skipped, skipped_back, trimmed, point_for, pointed, metres_of}
+use Rattle.field.specs.Metres.{is_digit, is_point, is_space, behind, unread, plain_metres, skipped, skipped_back, trimmed, point_for, pointed, metres_of}
 use Rattle.field.specs.MetresLaws.{MetresLaws, is_other}
-use Rattle.field.proofs.Reading.{by_swap, front_still, drop_pointed, plain_of, behind_of}
+use Rattle.field.proofs.Reading.{front_still, drop_pointed, plain_of, behind_of}
+use Rattle.field.proofs.Pointed.{no_space, none_pointed, space_still}
 use Rattle.field.proofs.Spaces.{skips_it, stops_there, trims}
 
 -- ---- a test of all bytes, of a joined and of a turned list
@@ -39,12 +40,6 @@ all_spaces (suc n) = all_spaces n
 
 -- ---- a text without comma and space
 
-no_space : (b : ℕ) → is_other b ≡ true → is_space b ≡ false
-no_space b e = bool_cases (is_space b) (λ q. no_more (rw q at e)) (λ q. q)
-
-no_comma : (b : ℕ) → is_other b ≡ true → is_comma b ≡ false
-no_comma b e = bool_cases (is_comma b) (λ q. no_more (rw (no_space b e, q) at e)) (λ q. q)
-
 none_skipped : (s : List ℕ) → all is_other s ≡ true → skipped s ≡ s
 unfolding front
 none_skipped [] a = refl
@@ -54,21 +49,13 @@ none_trimmed : (s : List ℕ) → all is_other s ≡ true → trimmed s ≡ s
 unfolding trimmed
 none_trimmed s a = ap skipped_back (none_skipped s a) ∙ ap reverse (none_skipped (reverse s) (all_turned is_other s ∙ a)) ∙ reverse-reverse s
 
-none_pointed : (s : List ℕ) → all is_other s ≡ true → pointed s ≡ s
-unfolding point_for
-none_pointed [] a = refl
-none_pointed (b ∷ s) a = let k = both (is_other b) (all is_other s) a in rw (no_comma b k.0) (ap (λ (l : List ℕ). b ∷ l) (none_pointed s k.1))
-
 read_as_before : (s : List ℕ) → all is_other s ≡ true → metres_of s ≡ plain_metres s
 unfolding metres_of
 read_as_before s a = ap (λ (l : List ℕ). plain_metres (pointed l)) (none_trimmed s a) ∙ ap plain_metres (none_pointed s a)
 
 -- ---- a comma
 
--- trimming and swapping do not meet: a comma is no space, and no space is made
-space_still : (b : ℕ) → is_space (point_for b) ≡ is_space b
-space_still b = by_swap b (λ c d. is_space c ≡ is_space d) refl (λ _. refl)
-
+-- trimming and swapping do not meet
 skipped_pointed : (s : List ℕ) → skipped (pointed s) ≡ pointed (skipped s)
 skipped_pointed s = ap (λ (n : ℕ). drop n (pointed s)) (front_still is_space space_still s) ∙ drop_pointed (front is_space s) s
 
