@@ -6,6 +6,7 @@ pub mod Orders
 pub mod SlotChanges
 pub mod LinkInserts
 pub mod FreeOrders
+pub mod Walks
 pub mod LinkRemovals
 pub mod Generations
 pub mod Starts

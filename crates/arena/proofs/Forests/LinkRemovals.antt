@@ -1,6 +1,6 @@
 -- A removal: the node's siblings are linked to each other, or to the parent's ends, and the slots of the node and of all below it go to
 -- the free chain. The slots then hold the forest without the node. Assumes nothing.
-use Rattle.std.proofs.Common.{◌≡◌, ℕ, ◌+◌, ◌<◌, ◌≤◌, cond, ◌≢◌, List, length, take, sym, refl, ap, ◌∙◌, arith, take_all}
+use Rattle.std.proofs.Common.{◌≡◌, ℕ, ◌+◌, ◌<◌, ◌≤◌, cond, ◌≢◌, List, length, sym, refl, ap, ◌∙◌, arith}
 use Rattle.arithmetic.specs.Tests.{same, δ, occ, final_or}
 use Rattle.arena.specs.Forest.{Forest, nil, node, app, size}
 use Rattle.arena.specs.Slots.{NIL, Slots, at, used, change, set_first, set_last, set_prev, set_next, unlink_from, unlink, free_order, next_generation, freed}
@@ -11,7 +11,8 @@ use Rattle.arena.proofs.Forests.ForestLaws.{first_or, last_or, cnt, top, kids, s
 use Rattle.arena.proofs.Forests.Segments.{SegR, seg_frame, seg_join, seg_cut, seg_set, seg_find, seg_next', seg_prev', last_count, first_count, last_in, Found, seg_parent, not_last, not_first}
 use Rattle.arena.proofs.Forests.Relations.{Rel, once, below, FreeR, free_frame}
 use Rattle.arena.proofs.Forests.SlotChanges.{gen_of, len_change, at_change, change_other, change_keep}
-use Rattle.arena.proofs.Forests.FreeOrders.{last_first, occ_last_first, length_last_first, free_order_of_a_tree, the_walk_back_lists_the_order, pushed, occ_pushed, length_pushed, head_pushed, freed_length, freed_other, freed_slot, freed_chain, aged_suc}
+use Rattle.arena.proofs.Forests.Walks.{a_walk_lists_a_tree}
+use Rattle.arena.proofs.Forests.FreeOrders.{last_first, occ_last_first, length_last_first, free_order_of_a_tree, pushed, occ_pushed, length_pushed, head_pushed, freed_length, freed_other, freed_slot, freed_chain, aged_suc}
 
 -- what the unlinking does to each slot
 pub record Unlinked (a b : Slots) (p pv nx : ℕ) : Type 0 where
@@ -175,16 +176,13 @@ module _ {X : Type 0} (n : ℕ) (a : Slots) (free : ℕ) (t : Forest X) (fl : Li
 
   -- the walk by previous links lists all of it
   is_walked : walked B i ≡ last_first Z
-  unfolding walked
   is_walked =
       let s = share (λ k g x. 1) in
       let T = r.total in
       let sm = r.small in
       let z1 = size_is_a_sum t in
       let z2 = size_is_a_sum b in
-      let o = length_last_first Z in
-      let w = the_walk_back_lists_the_order 127 B i b (ap (λ (q : Slot). q.first_child) at_i) (ap (λ (q : Slot). q.last_child) at_i) seg_b (λ j c. let h = in_n j (omega arith) in omega arith) (omega arith) in
-      ap (take 128) (w ∙ is_order) ∙ take_all 128 (last_first Z) (omega arith)
+      a_walk_lists_a_tree B i g x b (ap (λ (q : Slot). q.first_child) at_i) (ap (λ (q : Slot). q.last_child) at_i) seg_b (λ j c. let h = in_n j (omega arith) in omega arith) (omega arith)
 
   gens : (j : ℕ) → (at a j).generation < 18446744073709551615 → (at (freed B free (last_first Z)) j).generation ≡ (at a j).generation + cnt j Z
   unfolding B

@@ -1,7 +1,5 @@
-use Rattle.std.proofs.Common.{◌≡◌, ◌-◌, ◌≤◌, length, drop, refl, ◌∙◌, arith, rules}
-use borrow.Author.Tests.{not-true, not-false}
+use Rattle.std.proofs.Common.{refl, ◌∙◌, arith, rules}
 use Rattle.field.specs.Fields.{field_ok}
-use Rattle.arithmetic.specs.Tests.{all}
 use Rattle.arena.proofs.Owners.Places.{no_field}
 use Rattle.arithmetic.proofs.LoopLaws.{all_more, all_stop, all_done}
 use Rattle.arena.proofs.fields.fields_ok.Goals as goal
