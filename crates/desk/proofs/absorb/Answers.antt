@@ -4,7 +4,6 @@ use Rattle.text.specs.Refusal.{accepted}
 use Rattle.arithmetic.specs.declared.fold.StateHash.{StateHash}
 use Rattle.tree.specs.Calls.{guarded}
 use Rattle.desk.specs.Events.{absorb}
-use borrow.Author.Rules.{rules}
 use Rattle.desk.proofs.absorb.Goals as goal
 
 pub returns-then-broken : goal.returns-then-broken

@@ -7,7 +7,6 @@ use Rattle.tree.proofs.Prechecks.{few_slots}
 use Rattle.desk.specs.Events.{handle, handled, hit_of, applied_event}
 use Rattle.desk.specs.Support.Parts.{with_parts}
 use Rattle.desk.proofs.EventLaws.{hit_once, hover_once}
-use borrow.Author.Rules.{rules}
 use Rattle.desk.proofs.handle.Goals as goal
 
 pub returns-then-broken : goal.returns-then-broken

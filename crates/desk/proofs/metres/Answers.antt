@@ -1,10 +1,9 @@
 -- By where the read finds the field. Assumes nothing.
 use mathlib.Core.Path.{sym, ap, ◌∙◌}
 use Prim.Native.Nat.{ℕ}
-use Rattle.tree.specs.Calls.{Outcome, on_field}
+use Rattle.tree.specs.Calls.{Outcome}
 use Rattle.desk.specs.Events.{metres}
 use Rattle.tree.proofs.TakenLaws.{a_read_is_refused, a_read_finds_the_field}
-use borrow.Author.Rules.{rules}
 use Rattle.desk.proofs.metres.Goals as goal
 
 pub returns-in-Refused : goal.returns-in-Refused

@@ -8,7 +8,6 @@ use Rattle.tree.specs.Calls.{gives, guarded}
 use Rattle.tree.specs.declared.Ui.{Ui}
 use Rattle.tree.proofs.Prechecks.{few_slots, few_waiting}
 use Rattle.desk.specs.Events.{take_oldest, next_output}
-use borrow.Author.Rules.{rules}
 use Rattle.desk.proofs.next_output.Goals as goal
 
 pub returns-then-broken : goal.returns-then-broken

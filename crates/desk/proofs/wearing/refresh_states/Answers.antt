@@ -1,21 +1,19 @@
 use mathlib.Core.Path.{◌≡◌, refl, sym, ap, ◌∙◌}
-use Prim.Native.Nat.{◌-◌, ◌≤◌, ◌<◌}
+use Prim.Native.Nat.{◌<◌}
 use native.Mathlib.Omega.{arith}
 use borrow.Author.Rules.{rules, scaled_Fits}
 use borrow.Author.Tests.{eq-eqb, ne_eqb}
-use lib.ListN.{length, get_or, take, length-map}
+use lib.ListN.{length, get_or, take}
 use lib.Dec.{lit<}
 use lib.Seq.{length-take-le, get_or-take}
 use Rattle.arena.specs.Slots.{at}
 use Rattle.arithmetic.specs.Tests.{same}
 use Rattle.tree.specs.Calls.{gives}
-use Rattle.tree.specs.Wearing.{bits_at, with_appearance}
+use Rattle.tree.specs.Wearing.{bits_at}
 use Rattle.boxes.specs.Styles.{no_patch, layout_at, state_at}
 use Rattle.tree.specs.Trees.{with_styles}
 use Rattle.tree.specs.declared.Ui.{Ui}
-use Rattle.tree.proofs.Wearings.{refreshed_whole, look_after, look_first, look_last, look_same, look_other, look_past, look_lengths, look_slots, look_pools, look_style, bits_there}
-use Rattle.desk.proofs.wearing.refresh_states.Reads as reads
-use Rattle.desk.proofs.wearing.refresh_states.Lts as lts
+use Rattle.tree.proofs.Wearings.{refreshed_whole, look_first, look_last, look_same, look_other, look_past, look_lengths, look_slots, look_pools, look_style, bits_there}
 use Rattle.desk.proofs.wearing.refresh_states.Goals as goal
 
 pub loop-j-init : goal.loop-j-init

@@ -3,7 +3,6 @@ use mathlib.Core.Path.{sym, ap, ◌∙◌}
 use Prim.Native.Nat.{ℕ}
 use Rattle.tree.specs.Calls.{Outcome, field_cursor}
 use Rattle.tree.proofs.TakenLaws.{a_read_is_refused, a_read_finds_the_field}
-use borrow.Author.Rules.{rules}
 use Rattle.tree.proofs.Ui.field_cursor.Goals as goal
 
 pub returns-in-Refused : goal.returns-in-Refused

@@ -1,7 +1,6 @@
 -- By the precheck of the node and the place of its field. Assumes nothing.
 use mathlib.Core.Path.{sym, ◌∙◌}
 use Rattle.tree.specs.Answers.{fieldPlace}
-use borrow.Author.Rules.{rules}
 use Rattle.tree.proofs.Ui.field_place.Goals as goal
 
 pub returns-in-Refused : goal.returns-in-Refused

@@ -5,7 +5,6 @@ use Prim.Native.Nat.{ℕ}
 use Rattle.text.specs.Refusal.{accepted}
 use Rattle.tree.specs.Calls.{Outcome, field_text}
 use Rattle.tree.proofs.TakenLaws.{a_read_is_refused, a_read_finds_the_field}
-use borrow.Author.Rules.{rules}
 use Rattle.arena.specs.Fields.{Shown}
 use Rattle.tree.proofs.Ui.field_text.Goals as goal
 

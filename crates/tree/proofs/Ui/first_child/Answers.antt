@@ -1,7 +1,6 @@
 -- By its two tests. Assumes nothing.
 use mathlib.Core.Path.{sym, ◌∙◌}
 use Rattle.tree.specs.Calls.{guarded, first_child}
-use borrow.Author.Rules.{rules}
 use Rattle.tree.proofs.Ui.first_child.Goals as goal
 
 pub returns-then-broken : goal.returns-then-broken

@@ -9,7 +9,6 @@ use Rattle.field.specs.declared.NodeId.{NodeId}
 use Rattle.arena.specs.Slots.{NIL, id_at, nobody}
 use Rattle.tree.specs.Calls.{Outcome, gives, refuses, insert, insert_at}
 use Rattle.tree.specs.declared.Ui.{Ui}
-use borrow.Author.Rules.{rules}
 use Rattle.tree.proofs.Ui.insert.Goals as goal
 
 pub returns-in-Refused : goal.returns-in-Refused

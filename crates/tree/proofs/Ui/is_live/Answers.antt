@@ -1,7 +1,6 @@
 -- By its two tests. Assumes nothing.
 use mathlib.Core.Path.{sym, ◌∙◌}
 use Rattle.tree.specs.Calls.{guarded, live}
-use borrow.Author.Rules.{rules}
 use Rattle.tree.proofs.Ui.is_live.Goals as goal
 
 pub returns-then-broken : goal.returns-then-broken

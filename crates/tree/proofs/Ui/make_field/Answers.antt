@@ -3,7 +3,6 @@ use mathlib.Core.Path.{sym, ◌∙◌}
 use Rattle.tree.proofs.Prechecks.{refused_at_once}
 use Rattle.tree.proofs.TakenLaws.{a_field_to_take, a_field_to_keep}
 use Rattle.tree.specs.Calls.{make_field}
-use borrow.Author.Rules.{rules}
 use Rattle.tree.proofs.Ui.make_field.Goals as goal
 
 pub returns-in-Refused : goal.returns-in-Refused

@@ -3,7 +3,6 @@ use mathlib.Core.Path.{sym, ap, ◌∙◌}
 use Rattle.field.specs.declared.MaybeId.{MaybeId}
 use Rattle.tree.specs.Calls.{Outcome, next_sibling}
 use Rattle.tree.proofs.Prechecks.{refused_at_once, not_refused}
-use borrow.Author.Rules.{rules}
 use Rattle.tree.proofs.Ui.next_sibling.Goals as goal
 
 pub returns-in-Refused : goal.returns-in-Refused

@@ -4,7 +4,6 @@ use Rattle.text.specs.Refusal.{accepted}
 use Rattle.tree.specs.Calls.{Outcome, rect}
 use Rattle.boxes.specs.declared.Rect.{Rect}
 use Rattle.tree.proofs.Prechecks.{refused_at_once, not_refused}
-use borrow.Author.Rules.{rules}
 use Rattle.tree.proofs.Ui.rect.Goals as goal
 
 pub returns-in-Refused : goal.returns-in-Refused

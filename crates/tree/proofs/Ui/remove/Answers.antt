@@ -6,14 +6,13 @@ use Rattle.tree.proofs.Prechecks.{refused_at_once, not_refused, not_broken, live
 use Rattle.tree.proofs.WholeTrees.{the_walk_lists_the_subtree}
 use Rattle.arithmetic.proofs.TestLaws.{same_yes, same_no}
 use Prim.Native.Nat.{ℕ}
-use lib.ListN.{length, length-map}
+use lib.ListN.{length}
 use Rattle.arena.specs.Slots.{unlink}
 use Rattle.text.specs.declared.refusal.Verdict.TheVariants.{Accepted}
 use Rattle.tree.specs.Answers.{precheck}
 use Rattle.text.specs.declared.refusal.Refusal.TheVariants.{Root}
 use Rattle.tree.specs.Calls.{Outcome, gives, refuses, remove, remove_at, with_freed}
 use Rattle.tree.specs.declared.Ui.{Ui}
-use borrow.Author.Rules.{rules}
 use Rattle.tree.proofs.Ui.remove.Goals as goal
 
 pub returns-in-Refused : goal.returns-in-Refused

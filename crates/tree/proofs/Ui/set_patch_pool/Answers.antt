@@ -3,7 +3,6 @@ use mathlib.Core.Path.{sym, ap, ◌∙◌}
 use Rattle.tree.specs.declared.Ui.{Ui}
 use borrow.Author.Tests.{lt-ltb, le-ltb}
 use Rattle.tree.specs.Calls.{gives, guarded, set_patch_pool}
-use borrow.Author.Rules.{rules}
 use Rattle.tree.proofs.Ui.set_patch_pool.Goals as goal
 
 pub returns-then-broken : goal.returns-then-broken

@@ -9,7 +9,6 @@ use Rattle.arithmetic.specs.Tests.{all}
 use Rattle.boxes.specs.States.{in_pool}
 use Rattle.tree.specs.Wearing.{tabled_at}
 use Rattle.tree.specs.Calls.{Outcome, gives, refuses, set_state_table}
-use borrow.Author.Rules.{rules}
 use Rattle.tree.proofs.Ui.set_state_table.Goals as goal
 
 pub returns-then-table_in_pool : goal.returns-then-table_in_pool

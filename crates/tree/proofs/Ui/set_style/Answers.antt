@@ -3,7 +3,6 @@ use mathlib.Core.Path.{sym, ap, ◌∙◌}
 use Rattle.tree.specs.declared.Ui.{Ui}
 use Rattle.tree.proofs.Prechecks.{refused_at_once, not_refused}
 use Rattle.tree.specs.Calls.{gives, set_style}
-use borrow.Author.Rules.{rules}
 use Rattle.tree.proofs.Ui.set_style.Goals as goal
 
 pub returns-in-Refused : goal.returns-in-Refused

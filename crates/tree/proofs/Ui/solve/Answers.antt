@@ -3,7 +3,6 @@ use mathlib.Core.Path.{◌≡◌, sym, ap, ◌∙◌}
 use mathlib.Core.Bool.{Bool, true, false, ◌&&◌, not}
 use Rattle.tree.specs.Trees.{with_pass}
 use Rattle.tree.specs.Calls.{guarded, solve}
-use borrow.Author.Rules.{rules}
 use Rattle.boxes.specs.Layout.{same_view}
 use Rattle.tree.proofs.Ui.solve.Goals as goal
 

@@ -1,6 +1,5 @@
 -- Each part by its contract. Assumes nothing.
 use Rattle.tree.specs.Trees.{with_nodes}
-use borrow.Author.Rules.{rules}
 use Rattle.tree.proofs.nodes.remove_at.Goals as goal
 
 pub returns : goal.returns

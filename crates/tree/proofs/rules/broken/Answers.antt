@@ -12,10 +12,7 @@ use Rattle.arena.specs.Rules.{linked, distinct, owners_well}
 use Rattle.boxes.specs.States.{state_well}
 use Rattle.tree.specs.Broken.{links_well, broken}
 use Rattle.tree.specs.declared.Ui.{Ui}
-use borrow.Author.Rules.{rules}
 use native.Mathlib.Omega.{arith}
-use Rattle.tree.proofs.rules.broken.Reads as reads
-use Rattle.tree.proofs.rules.broken.Lts as lts
 use Rattle.tree.proofs.rules.broken.Goals as goal
 
 rule-by-rule : (u : Ui) {l w s o t : Bool} → l ≡ linked (limit_of u) u.slots u.free u.live → w ≡ all (state_well u.patch_count) (take (limit_of u) u.states) → s ≡ (leb u.stated_count 3 && distinct (limit_of u) (stated_of u))

@@ -1,5 +1,4 @@
 -- By the two tests of the limit. Assumes nothing.
-use borrow.Author.Rules.{rules}
 use borrow.Author.Tests.{lt-ltb, le-ltb}
 use Rattle.tree.specs.Calls.{new_tree}
 use Rattle.arithmetic.proofs.TestLaws.{same_yes, same_no}
