@@ -9,10 +9,6 @@ use Rattle.tree.proofs.Places.{the_place_is_changed}
 use Rattle.desk.specs.Events.{keyed_field, edit_fold}
 use Rattle.desk.proofs.events.edit_field.Goals as goal
 
-pub returns-in-Nowhere : goal.returns-in-Nowhere
-unfolding with_event_parts
-returns-in-Nowhere c = λ u. rw (← c.field_place.ensures.1, c.in-Nowhere.is)
-
 pub returns-in-At : goal.returns-in-At
 unfolding with_interaction with_fields with_event_parts edit_fold
 returns-in-At c = λ u. let p = c.args.p in

@@ -14,9 +14,6 @@ returns-then-live c = λ w e. let u = with_parts w c.args.p in
     let d = c.in-Present.d in
     c.edit_field.ensures w ∙ ap (λ (b : Bool). cond b (edit_field u d key (field_of d u.fields)) u) (sym c.if-live.true ∙ e ∙ ap (has_live w) c.in-Present.is) ∙ ap (edit_focused u key) (sym c.in-Present.is)
 
-pub returns-in-Absent : goal.returns-in-Absent
-returns-in-Absent c = λ w e. ap (edit_focused (with_parts w c.args.p) c.args.key) (sym c.in-Absent.is)
-
 pub returns-else-live : goal.returns-else-live
 unfolding with_event_parts
 returns-else-live c = λ w e. let u = with_parts w c.args.p in

@@ -4,6 +4,3 @@ use Rattle.desk.proofs.fold.absorb_maybe.Goals as goal
 
 pub returns-in-Absent : goal.returns-in-Absent
 returns-in-Absent c = rw c.in-Absent.is (and_then _ _ _ c.absorb_u32-slot.ensures c.absorb_u64.ensures)
-
-pub returns-in-Present : goal.returns-in-Present
-returns-in-Present c = rw c.in-Present.is c.absorb_id.ensures

@@ -1,10 +1,9 @@
 use mathlib.Core.Path.{◌≡◌, refl, sym, ap, ◌∙◌}
 use Prim.Native.Nat.{◌<◌}
 use native.Mathlib.Omega.{arith}
-use borrow.Author.Rules.{rules, scaled_Fits}
+use borrow.Author.Rules.{rules}
 use borrow.Author.Tests.{eq-eqb, ne_eqb}
 use lib.ListN.{length, get_or, take}
-use lib.Dec.{lit<}
 use lib.Seq.{length-take-le, get_or-take}
 use Rattle.arena.specs.Slots.{at}
 use Rattle.arithmetic.specs.Tests.{same}
@@ -56,15 +55,6 @@ loop-j-preserved-then-next-s c =
       look_same u hover (take t.count t.items) l.u l.j (get_or t.items l.j 0) c.bits_in-bits.result l.invariant.3 h ei eb
           c.entry_of-next.ensures c.worn.ensures (eq-eqb _ _ c.if-next-s.true),
     )
-
-pub offset_bounds-u-k-in-loop-j-4 : goal.offset_bounds-u-k-in-loop-j-4
-offset_bounds-u-k-in-loop-j-4 c = scaled_Fits _ 128 176 c.if-i-ge128.false (lit< tt)
-
-pub bounds-u-k-in-loop-j-4 : goal.bounds-u-k-in-loop-j-4
-bounds-u-k-in-loop-j-4 c = let h = c.if-i-ge128.false in omega (arith, h)
-
-pub loop-j-smaller : goal.loop-j-smaller
-loop-j-smaller c = omega (arith, c.loop-j-test.true)
 
 pub loop-j-preserved : goal.loop-j-preserved
 unfolding with_styles state_at layout_at same at

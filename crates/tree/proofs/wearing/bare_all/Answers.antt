@@ -1,19 +1,12 @@
-use mathlib.Core.Path.{◌≡◌, ◌∙◌}
+use mathlib.Core.Path.{◌∙◌}
 use native.Mathlib.Omega.{arith}
-use borrow.Author.Rules.{rules}
 use borrow.Author.Tests.{eq-eqb, ne_eqb}
-use lib.ListN.{length, length-set}
+use lib.ListN.{length-set}
 use Rattle.arithmetic.specs.Tests.{same}
 use Rattle.boxes.specs.Styles.{state_at, layout_at}
 use Rattle.tree.specs.Trees.{with_styles}
-use Rattle.tree.proofs.Wearings.{bare_start, bare_more, bare_done, bared_outside, bared_as_it_is, bared_anew}
+use Rattle.tree.proofs.Wearings.{bare_more, bare_done, bared_outside, bared_as_it_is, bared_anew}
 use Rattle.tree.proofs.wearing.bare_all.Goals as goal
-
-pub loop-i-init : goal.loop-i-init
-loop-i-init c =
-    let h : length c.args.u.layout ≡ 128 = c.well_formed.0.1.1.1.0.1.0.1 in
-    let g : length c.args.u.states ≡ 128 = c.well_formed.0.1.1.1.1.1.1.1.1.1.0.1.0.1 in
-    (search rules, h, g, bare_start _ c.args.limit)
 
 pub loop-i-preserved-then-at-ge128 : goal.loop-i-preserved-then-at-ge128
 unfolding with_styles

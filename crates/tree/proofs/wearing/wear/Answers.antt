@@ -9,7 +9,6 @@ use Rattle.tree.specs.Wearing.{appearance_of, with_appearance}
 use Rattle.arithmetic.specs.Tests.{same}
 use Rattle.boxes.specs.Styles.{layout_at, state_at}
 use Rattle.tree.specs.Trees.{pool_of, with_styles}
-use borrow.Author.Rules.{rules}
 use Rattle.tree.proofs.wearing.wear.Goals as goal
 
 pub returns-then-i-ge128 : goal.returns-then-i-ge128
@@ -21,12 +20,6 @@ returns-then-i-ge128 c = let h : length c.args.u.layout ≡ 128 = c.well_formed.
 pub returns-then-next-s : goal.returns-then-next-s
 unfolding with_appearance with_styles wear state_at same
 returns-then-next-s c = rw (← c.entry_of-next.ensures, eq-eqb _ _ c.if-next-s.true, c.worn.ensures)
-
-pub offset_bounds-out-k-2 : goal.offset_bounds-out-k-2
-offset_bounds-out-k-2 c = let h = c.if-i-ge128.false in search rules
-
-pub bounds-out-k-2 : goal.bounds-out-k-2
-bounds-out-k-2 c = let h = c.if-i-ge128.false in search rules
 
 pub returns : goal.returns
 unfolding with_appearance with_styles wear layout_at state_at same
