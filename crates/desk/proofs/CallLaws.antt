@@ -1,4 +1,3 @@
--- Each call first tests the link rules; behind that it is a choice between refusals by other numbers, which give back the tree, and an acceptance.
 -- One walk over the calls gives the three laws. Assumes nothing.
 use mathlib.Core.Path.{◌≡◌, refl, sym, ◌∙◌}
 use mathlib.Core.Bool.{Bool, true, false, ◌&&◌, not, cond}
@@ -39,108 +38,41 @@ use Rattle.tree.specs.History.Change.{remove, set_style, set_state_table, set_pa
 use Rattle.tree.specs.History.Question.{field_text, field_cursor, metres, rect, live, first_child, next_sibling, absorb}
 use Rattle.desk.specs.Demand3.{step, change_step, number_asked}
 use Rattle.desk.specs.CallLaws.{ARefusedCallChangesNothing, ABrokenTreeIsRefused, OnlyABrokenTreeIsRefusedBy1}
-
--- A call's number and next tree.
-record Fair (u : Ui) (number : ℕ) (next : Ui) : Type 0 where
-  back : (number ≡ 0 → ⊥) → next ≡ u
-  by_1 : broken u ≡ true → number ≡ 1
-  not_by_1 : broken u ≡ false → number ≡ 1 → ⊥
-
-abbrev FairCall : {A : Type 0} → Ui → Outcome A → Type 0
-FairCall u o = Fair u o.answer.number o.next
-
--- What stands behind the test of the rules.
-record Behind {A : Type 0} (u : Ui) (o : Outcome A) : Type 0 where
-  back : (o.answer.number ≡ 0 → ⊥) → o.next ≡ u
-  not_by_1 : broken u ≡ false → o.answer.number ≡ 1 → ⊥
-
--- a text is read as metres, or refused by 9 or 10
-abbrev NotBy1 : Answer ℕ → Type 0
-NotBy1 a = a.number ≡ 1 → ⊥
-
-metres_are_not_by_1 : (s : List ℕ) → NotBy1 (metres_of s)
-metres_are_not_by_1 = reading_of NotBy1 (λ v e. omega arith) (λ e. omega arith) (λ e. omega arith)
+use Rattle.desk.proofs.FairCalls.{Fair, FairCall, Behind, accepted, refused, either, guarded_is_fair, live_is_fair, question_is_fair}
 
 module _ (u : Ui) where
-  accepted : {A : Type 0} {u' : Ui} {a : A} → Behind u (gives u' a)
-  accepted = record { back = λ r. absurd (r refl); not_by_1 = λ _ e. omega arith }
-
-  refused : {A : Type 0} {none : A} (word : Refusal) → (number_of word ≡ 1 → ⊥) → Behind u (refuses u word none)
-  refused word x = record { back = λ _. refl; not_by_1 = λ _. x }
-
-  either : {A : Type 0} (b : Bool) {o o' : Outcome A} → Behind u o → Behind u o' → Behind u (cond b o o')
-  either b x y = pick_of (Behind u) b (λ _. x) (λ _. y)
-
-  guarded_is_fair : {A : Type 0} (none : A) {o : Outcome A} → Behind u o → FairCall u (guarded u none o)
-  unfolding guarded
-  guarded_is_fair {A} none {o} x = go (broken u) refl
-    where
-      go : (b : Bool) → broken u ≡ b → FairCall u (cond b (refuses u Broken none) o)
-      go true e = record { back = λ _. refl; by_1 = λ _. refl; not_by_1 = λ f _. no_more (sym f ∙ e) }
-      go false e = record { back = x.back; by_1 = λ t. no_more (sym e ∙ t); not_by_1 = x.not_by_1 }
-
-  live_is_fair : {A : Type 0} (d : NodeId) (none : A) {o : Outcome A} → Behind u o → FairCall u (on_live u d none o)
-  unfolding on_live
-  live_is_fair d none x = guarded_is_fair none (either (is_live (limit_of u) u.slots d) x (refused Missing (λ e. omega arith)))
-
-  -- a field of a tree that is not broken keeps its rules
-  read_is_fair : {A : Type 0} (d : NodeId) (none : A) (read : Field → Outcome A) → ((f : Field) → (broken u ≡ false → field_ok f ≡ true) → Behind u (read f)) → FairCall u (on_field u d none read)
-  unfolding on_field
-  read_is_fair d none read x = live_is_fair d none (go (field_of d u.fields) refl)
-    where
-      go : (m : Maybe Field) → field_of d u.fields ≡ m → Behind u (of_field u none read m)
-      go nothing e = refused Fieldless (λ z. omega arith)
-      go (just f) e =
-          x f (λ b. found_field_is_ruled (λ g. field_ok g ≡ true) d u.fields f (a_test_of_all_is_of_each field_ok u.fields (a_tree_not_broken_keeps_each_rule u b).fields) e)
-
   taken : (d : NodeId) (m : Maybe Field) → Behind u (take_field u d m)
-  taken d (just f) = accepted
+  taken d (just f) = accepted u
   taken d nothing = go (first_field vacant (reclaimed (limit_of u) u.slots u.fields))
     where
       go : (m : Maybe Field) → Behind u (take_vacant u d m)
-      go nothing = refused Full (λ e. omega arith)
-      go (just f) = accepted
+      go nothing = refused u Full (λ e. omega arith)
+      go (just f) = accepted u
 
   oldest : (ds : List NodeId) → Behind u (take_oldest u ds)
-  oldest [] = accepted
-  oldest (d ∷ ds) = accepted
+  oldest [] = accepted u
+  oldest (d ∷ ds) = accepted u
 
   insert_is_fair : (d : NodeId) → FairCall u (tree.insert u d)
   unfolding tree.insert
-  insert_is_fair d = live_is_fair d nobody (either (same u.free NIL) (refused Full (λ e. omega arith)) accepted)
+  insert_is_fair d = live_is_fair u d nobody (either u (same u.free NIL) (refused u Full (λ e. omega arith)) (accepted u))
 
   change_is_fair : (c : Change) → Fair u (change_step u c).number (change_step u c).next
   unfolding tree.remove tree.set_style tree.set_state_table tree.set_patch_pool tree.make_field tree.solve desk.handle desk.next_output
-  change_is_fair (remove d) = live_is_fair {A = ℕ} d 0 (either (same d.index 0) (refused Root (λ e. omega arith)) accepted)
-  change_is_fair (set_style d s) = live_is_fair {A = ℕ} d 0 accepted
-  change_is_fair (set_state_table d table) = live_is_fair {A = ℕ} d 0 (either (all (in_pool u.patch_count) table) accepted (refused Foreign (λ e. omega arith)))
-  change_is_fair (set_patch_pool patches count) = guarded_is_fair {A = ℕ} 0 (either (ltb 64 count) (refused Long (λ e. omega arith)) accepted)
-  change_is_fair (make_field d) = live_is_fair {A = ℕ} d 0 (taken d (field_of d u.fields))
-  change_is_fair (solve v) = guarded_is_fair {A = ℕ} 0 (either (not u.dirty && same_view u.solved_for v) accepted accepted)
-  change_is_fair (handle e) = guarded_is_fair {A = ℕ} 0 accepted
-  change_is_fair next_output = guarded_is_fair Absent (oldest (waiting_of u))
-
-  -- a read leaves the tree as it is
-  asked : {n : ℕ} {v : Ui} → Fair u n v → Fair u n u
-  asked f = record { back = λ _. refl; by_1 = f.by_1; not_by_1 = f.not_by_1 }
-
-  question_is_fair : (q : Question) → Fair u (number_asked u q) u
-  unfolding tree.field_text tree.field_cursor desk.metres tree.rect tree.live tree.first_child tree.next_sibling desk.absorb field_metres
-  question_is_fair (field_text d) = asked (read_is_fair d no_text (λ f. gives u (shown f)) (λ f _. accepted))
-  question_is_fair (field_cursor d) = asked (read_is_fair d 0 (λ f. gives u f.cursor) (λ f _. accepted))
-  question_is_fair (metres d) =
-      asked (read_is_fair d 0 (λ f. record { next = u; answer = field_metres f }) (λ f r. record { back = λ _. refl; not_by_1 = λ b. rw (r b) (metres_are_not_by_1 (held f)) }))
-  question_is_fair (rect d) = asked (live_is_fair d no_rect accepted)
-  question_is_fair (live d) = asked (guarded_is_fair false accepted)
-  question_is_fair (first_child d) = asked (guarded_is_fair Absent accepted)
-  question_is_fair (next_sibling d) = asked (live_is_fair d Absent accepted)
-  question_is_fair (absorb s) = asked (guarded_is_fair {A = ℕ} 0 accepted)
+  change_is_fair (remove d) = live_is_fair u {A = ℕ} d 0 (either u (same d.index 0) (refused u Root (λ e. omega arith)) (accepted u))
+  change_is_fair (set_style d s) = live_is_fair u {A = ℕ} d 0 (accepted u)
+  change_is_fair (set_state_table d table) = live_is_fair u {A = ℕ} d 0 (either u (all (in_pool u.patch_count) table) (accepted u) (refused u Foreign (λ e. omega arith)))
+  change_is_fair (set_patch_pool patches count) = guarded_is_fair u {A = ℕ} 0 (either u (ltb 64 count) (refused u Long (λ e. omega arith)) (accepted u))
+  change_is_fair (make_field d) = live_is_fair u {A = ℕ} d 0 (taken d (field_of d u.fields))
+  change_is_fair (solve v) = guarded_is_fair u {A = ℕ} 0 (either u (not u.dirty && same_view u.solved_for v) (accepted u) (accepted u))
+  change_is_fair (handle e) = guarded_is_fair u {A = ℕ} 0 (accepted u)
+  change_is_fair next_output = guarded_is_fair u Absent (oldest (waiting_of u))
 
   call_is_fair : (c : Call) → Fair u (step u c).number (step u c).next
   unfolding step
   call_is_fair (insert d) = insert_is_fair d
   call_is_fair (change c) = change_is_fair c
-  call_is_fair (ask q) = question_is_fair q
+  call_is_fair (ask q) = question_is_fair u q
 
 -- ---- the laws
 

@@ -36,10 +36,14 @@ either_stays : (u : Ui) (b : Bool) (v w : Ui) → Stays u v → Stays u w → St
 either_stays u true v w p q = p
 either_stays u false v w p q = q
 
+-- one more output may wait
+abbrev pub has_room : Ui → Bool
+has_room u = ltb u.output_count (limit_of u)
+
 activate_stays : (u : Ui) (d : NodeId) → Stays u (activate u d)
 unfolding activate activated with_interaction with_waiting
 activate_stays u d =
-    either_stays u (ltb u.output_count (limit_of u)) _ _ (record { slots = refl; layout = refl; pointer = refl }) (record { slots = refl; layout = refl; pointer = refl })
+    either_stays u (has_room u) _ _ (record { slots = refl; layout = refl; pointer = refl }) (record { slots = refl; layout = refl; pointer = refl })
 
 release_stays : (u : Ui) (hit : MaybeId) (m : MaybeId) → Stays u (released_on u hit m)
 unfolding with_interaction

@@ -11,6 +11,7 @@ pub mod ComputedRuns
 pub mod AnswerLaws
 pub mod ReadSteps
 pub mod CallSteps
+pub mod FairCalls
 pub mod CallLaws
 pub mod NotBrokenStays
 pub mod PassBoxes

@@ -45,6 +45,7 @@ use Rattle.boxes.specs.declared.UiEvent.{UiEvent}
 use Rattle.boxes.specs.declared.UiEvent.TheVariants.{PointerMoved, PointerPressed, PointerReleased, TextEntered, Edit}
 use Rattle.boxes.specs.declared.Key.{Key}
 use Rattle.boxes.specs.declared.Key.TheVariants.{Char, Op}
+use Rattle.desk.proofs.EventLaws.{has_room}
 use Rattle.desk.proofs.KeySteps.{key_keeps_owner, key_keeps_rules}
 
 -- ---- lengths as tests
@@ -115,8 +116,8 @@ module _ {u : Ui} (k : Kept u) where
   activation_keeps d =
       let n = waiting_fits in
       let a = length-append (waiting_of u) (d ∷ []) in
-      pick_of Kept (ltb u.output_count (limit_of u))
-      (λ e. let f = ltb-true u.output_count (limit_of u) e in another_interaction_keeps_the_tree (other_outputs_keep_the_tree k (waiting_of u ++ d ∷ []) (omega arith)) _)
+      pick_of Kept (has_room u)
+      (λ e. let f = ltb-true u.output_count _ e in another_interaction_keeps_the_tree (other_outputs_keep_the_tree k (waiting_of u ++ d ∷ []) (omega arith)) _)
       (λ e. another_interaction_keeps_the_tree k _)
 
   release_keeps : (hit pressed : MaybeId) → Kept (released_on u hit pressed)

@@ -21,6 +21,7 @@ use Rattle.desk.specs.Events.{pressed_on, activated, activate, released_on, appl
 use Rattle.tree.specs.History.{History, Input, with_input, id_named, hit_name, same_name, after_event}
 use Rattle.boxes.specs.declared.UiEvent.TheVariants.{PointerMoved, PointerPressed, PointerReleased}
 use Rattle.desk.proofs.Invariant.{NameIn, NamedBy, Inv, with_input_lem, with_outputs}
+use Rattle.desk.proofs.EventLaws.{has_room}
 use Rattle.desk.proofs.NameLaws.{equal_ids_are_the_same, id_cases}
 use Rattle.desk.proofs.RefreshSteps.{hits_agree}
 
@@ -47,9 +48,9 @@ module _ {k : ℕ} {u : Ui} {h : History} (v : Inv k u h) where
       let i : Input = record { pointer = h.input.pointer; pressed = nothing; focus = just m } in
       let none : NamedBy h.named Absent nothing = record { is_the_id = refl; is_in = tt } in
       let this : NamedBy h.named (Present d) (just m) = record { is_the_id = refl; is_in = b } in
-      bool_cases (ltb u.output_count (limit_of u))
+      bool_cases (has_room u)
       (λ e.
-      let few = ltb-true u.output_count (limit_of u) e in
+      let few = ltb-true u.output_count _ e in
       let ds = waiting_of u ++ d ∷ [] in
       let n = waiting_length u v.nodes.links.rel.small v.queue in
       let c : length ds ≤ limit_of u = let a = length-append (waiting_of u) (d ∷ []) in omega arith in

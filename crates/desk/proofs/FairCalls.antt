@@ -1,0 +1,110 @@
+-- Each call first tests the link rules; behind that it is a choice between refusals by other numbers, which give back the tree, and an acceptance.
+-- So it is with each question. Assumes nothing.
+use mathlib.Core.Path.{◌≡◌, refl, sym, ◌∙◌}
+use mathlib.Core.Bool.{Bool, true, false, ◌&&◌, not, cond}
+use mathlib.Core.List.{List, [], ◌∷◌}
+use Prim.Native.Nat.{ℕ}
+use native.Mathlib.Omega.{arith}
+use lib.Dec.{ltb}
+use Rattle.text.specs.Refusal.{Answer, number_of}
+use Rattle.text.specs.declared.refusal.Refusal.{Refusal}
+use Rattle.text.specs.declared.refusal.Refusal.TheVariants.{Broken, Missing, Full, Root, Foreign, Long, Fieldless}
+use Rattle.field.specs.Fields.{field_ok, held}
+use Rattle.field.specs.Metres.{metres_of, field_metres}
+use Rattle.field.proofs.Reading.{reading_of}
+use Rattle.field.specs.declared.NodeId.{NodeId}
+use Rattle.field.specs.declared.MaybeId.TheVariants.{Absent}
+use Rattle.field.specs.declared.Field.{Field}
+use Rattle.arithmetic.specs.Tests.{same, all, Maybe, nothing, just}
+use Rattle.arithmetic.proofs.BoolLaws.{pick_of, no_more}
+use Rattle.arithmetic.proofs.TestLaws.{bool_cases}
+use Rattle.tree.specs.Slots.{NIL, is_live, nobody}
+use Rattle.tree.specs.Styles.{no_rect}
+use Rattle.tree.specs.States.{in_pool}
+use Rattle.tree.specs.Fields.{field_of, first_field, vacant, reclaimed, no_text}
+use Rattle.tree.specs.Trees.{limit_of, waiting_of}
+use Rattle.tree.specs.Broken.{broken}
+use Rattle.tree.specs.Layout.{same_view}
+use Rattle.tree.specs.Calls as tree
+use Rattle.tree.specs.Calls.{Outcome, gives, refuses, guarded, on_live, of_field, on_field, shown, take_vacant, take_field}
+use Rattle.tree.specs.declared.Ui.{Ui}
+use Rattle.tree.proofs.FieldLaws.{a_test_of_all_is_of_each}
+use Rattle.tree.proofs.FieldParts.{found_field_is_ruled}
+use Rattle.tree.proofs.RuleParts.{a_tree_not_broken_keeps_each_rule}
+use Rattle.desk.specs.Events as desk
+use Rattle.desk.specs.Events.{take_oldest}
+use Rattle.tree.specs.History.{Call, Change, Question}
+use Rattle.tree.specs.History.Call.{insert, change, ask}
+use Rattle.tree.specs.History.Change.{remove, set_style, set_state_table, set_patch_pool, make_field, solve, handle, next_output}
+use Rattle.tree.specs.History.Question.{field_text, field_cursor, metres, rect, live, first_child, next_sibling, absorb}
+use Rattle.desk.specs.Demand3.{step, change_step, number_asked}
+use Rattle.desk.specs.CallLaws.{ARefusedCallChangesNothing, ABrokenTreeIsRefused, OnlyABrokenTreeIsRefusedBy1}
+
+-- A call's number and next tree.
+pub record Fair (u : Ui) (number : ℕ) (next : Ui) : Type 0 where
+  pub back : (number ≡ 0 → ⊥) → next ≡ u
+  pub by_1 : broken u ≡ true → number ≡ 1
+  pub not_by_1 : broken u ≡ false → number ≡ 1 → ⊥
+
+abbrev pub FairCall : {A : Type 0} → Ui → Outcome A → Type 0
+FairCall u o = Fair u o.answer.number o.next
+
+-- What stands behind the test of the rules.
+pub record Behind {A : Type 0} (u : Ui) (o : Outcome A) : Type 0 where
+  pub back : (o.answer.number ≡ 0 → ⊥) → o.next ≡ u
+  pub not_by_1 : broken u ≡ false → o.answer.number ≡ 1 → ⊥
+
+-- a text is read as metres, or refused by 9 or 10
+abbrev NotBy1 : Answer ℕ → Type 0
+NotBy1 a = a.number ≡ 1 → ⊥
+
+metres_are_not_by_1 : (s : List ℕ) → NotBy1 (metres_of s)
+metres_are_not_by_1 = reading_of NotBy1 (λ v e. omega arith) (λ e. omega arith) (λ e. omega arith)
+
+module _ (u : Ui) where
+  pub accepted : {A : Type 0} {u' : Ui} {a : A} → Behind u (gives u' a)
+  accepted = record { back = λ r. absurd (r refl); not_by_1 = λ _ e. omega arith }
+
+  pub refused : {A : Type 0} {none : A} (word : Refusal) → (number_of word ≡ 1 → ⊥) → Behind u (refuses u word none)
+  refused word x = record { back = λ _. refl; not_by_1 = λ _. x }
+
+  pub either : {A : Type 0} (b : Bool) {o o' : Outcome A} → Behind u o → Behind u o' → Behind u (cond b o o')
+  either b x y = pick_of (Behind u) b (λ _. x) (λ _. y)
+
+  pub guarded_is_fair : {A : Type 0} (none : A) {o : Outcome A} → Behind u o → FairCall u (guarded u none o)
+  unfolding guarded
+  guarded_is_fair {A} none {o} x = go (broken u) refl
+    where
+      go : (b : Bool) → broken u ≡ b → FairCall u (cond b (refuses u Broken none) o)
+      go true e = record { back = λ _. refl; by_1 = λ _. refl; not_by_1 = λ f _. no_more (sym f ∙ e) }
+      go false e = record { back = x.back; by_1 = λ t. no_more (sym e ∙ t); not_by_1 = x.not_by_1 }
+
+  pub live_is_fair : {A : Type 0} (d : NodeId) (none : A) {o : Outcome A} → Behind u o → FairCall u (on_live u d none o)
+  unfolding on_live
+  live_is_fair d none x = guarded_is_fair none (either (is_live (limit_of u) u.slots d) x (refused Missing (λ e. omega arith)))
+
+  -- a field of a tree that is not broken keeps its rules
+  read_is_fair : {A : Type 0} (d : NodeId) (none : A) (read : Field → Outcome A) → ((f : Field) → (broken u ≡ false → field_ok f ≡ true) → Behind u (read f)) → FairCall u (on_field u d none read)
+  unfolding on_field
+  read_is_fair d none read x = live_is_fair d none (go (field_of d u.fields) refl)
+    where
+      go : (m : Maybe Field) → field_of d u.fields ≡ m → Behind u (of_field u none read m)
+      go nothing e = refused Fieldless (λ z. omega arith)
+      go (just f) e =
+          x f (λ b. found_field_is_ruled (λ g. field_ok g ≡ true) d u.fields f (a_test_of_all_is_of_each field_ok u.fields (a_tree_not_broken_keeps_each_rule u b).fields) e)
+
+  -- a read leaves the tree as it is
+  asked : {n : ℕ} {v : Ui} → Fair u n v → Fair u n u
+  asked f = record { back = λ _. refl; by_1 = f.by_1; not_by_1 = f.not_by_1 }
+
+  pub question_is_fair : (q : Question) → Fair u (number_asked u q) u
+  unfolding tree.field_text tree.field_cursor desk.metres tree.rect tree.live tree.first_child tree.next_sibling desk.absorb field_metres
+  question_is_fair (field_text d) = asked (read_is_fair d no_text (λ f. gives u (shown f)) (λ f _. accepted))
+  question_is_fair (field_cursor d) = asked (read_is_fair d 0 (λ f. gives u f.cursor) (λ f _. accepted))
+  question_is_fair (metres d) =
+      asked (read_is_fair d 0 (λ f. record { next = u; answer = field_metres f }) (λ f r. record { back = λ _. refl; not_by_1 = λ b. rw (r b) (metres_are_not_by_1 (held f)) }))
+  question_is_fair (rect d) = asked (live_is_fair d no_rect accepted)
+  question_is_fair (live d) = asked (guarded_is_fair false accepted)
+  question_is_fair (first_child d) = asked (guarded_is_fair Absent accepted)
+  question_is_fair (next_sibling d) = asked (live_is_fair d Absent accepted)
+  question_is_fair (absorb s) = asked (guarded_is_fair {A = ℕ} 0 accepted)
