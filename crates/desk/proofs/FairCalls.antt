@@ -1,30 +1,26 @@
 -- Each call first tests the link rules; behind that it is a choice between refusals by other numbers, which give back the tree, and an acceptance.
 -- So it is with each question. Assumes nothing.
 use mathlib.Core.Path.{◌≡◌, refl, sym, ◌∙◌}
-use mathlib.Core.Bool.{Bool, true, false, ◌&&◌, not, cond}
-use mathlib.Core.List.{List, [], ◌∷◌}
+use mathlib.Core.Bool.{Bool, true, false, cond}
+use mathlib.Core.List.{List}
 use Prim.Native.Nat.{ℕ}
 use native.Mathlib.Omega.{arith}
-use lib.Dec.{ltb}
 use Rattle.text.specs.Refusal.{Answer, number_of}
 use Rattle.text.specs.declared.refusal.Refusal.{Refusal}
-use Rattle.text.specs.declared.refusal.Refusal.TheVariants.{Broken, Missing, Full, Root, Foreign, Long, Fieldless}
+use Rattle.text.specs.declared.refusal.Refusal.TheVariants.{Broken, Missing, Fieldless}
 use Rattle.field.specs.Fields.{field_ok, held}
 use Rattle.field.specs.Metres.{metres_of, field_metres}
 use Rattle.field.proofs.Reading.{reading_of}
 use Rattle.field.specs.declared.NodeId.{NodeId}
 use Rattle.field.specs.declared.MaybeId.TheVariants.{Absent}
 use Rattle.field.specs.declared.Field.{Field}
-use Rattle.arithmetic.specs.Tests.{same, all, Maybe, nothing, just}
+use Rattle.arithmetic.specs.Tests.{Maybe, nothing, just}
 use Rattle.arithmetic.proofs.BoolLaws.{pick_of, no_more}
-use Rattle.arithmetic.proofs.TestLaws.{bool_cases}
-use Rattle.tree.specs.Slots.{NIL, is_live, nobody}
+use Rattle.tree.specs.Slots.{is_live}
 use Rattle.tree.specs.Styles.{no_rect}
-use Rattle.tree.specs.States.{in_pool}
-use Rattle.tree.specs.Fields.{field_of, first_field, vacant, reclaimed, no_text}
-use Rattle.tree.specs.Trees.{limit_of, waiting_of}
+use Rattle.tree.specs.Fields.{field_of, no_text}
+use Rattle.tree.specs.Trees.{limit_of}
 use Rattle.tree.specs.Broken.{broken}
-use Rattle.tree.specs.Layout.{same_view}
 use Rattle.tree.specs.Calls as tree
 use Rattle.tree.specs.Calls.{Outcome, gives, refuses, guarded, on_live, of_field, on_field, shown, take_vacant, take_field}
 use Rattle.tree.specs.declared.Ui.{Ui}
@@ -33,12 +29,9 @@ use Rattle.tree.proofs.FieldParts.{found_field_is_ruled}
 use Rattle.tree.proofs.RuleParts.{a_tree_not_broken_keeps_each_rule}
 use Rattle.desk.specs.Events as desk
 use Rattle.desk.specs.Events.{take_oldest}
-use Rattle.tree.specs.History.{Call, Change, Question}
-use Rattle.tree.specs.History.Call.{insert, change, ask}
-use Rattle.tree.specs.History.Change.{remove, set_style, set_state_table, set_patch_pool, make_field, solve, handle, next_output}
+use Rattle.tree.specs.History.{Question}
 use Rattle.tree.specs.History.Question.{field_text, field_cursor, metres, rect, live, first_child, next_sibling, absorb}
-use Rattle.desk.specs.Demand3.{step, change_step, number_asked}
-use Rattle.desk.specs.CallLaws.{ARefusedCallChangesNothing, ABrokenTreeIsRefused, OnlyABrokenTreeIsRefusedBy1}
+use Rattle.desk.specs.Demand3.{number_asked}
 
 -- A call's number and next tree.
 pub record Fair (u : Ui) (number : ℕ) (next : Ui) : Type 0 where

@@ -4,7 +4,6 @@
 -- used again, a live node answers as if every node ever made had a name of its own. Its text is made of the keys that were handled while it had
 -- the focus, and of no other ship's; a field into which no key fell is empty and reads as 9, never as 0; its box is that of the last pass.
 use Rattle.std.specs.Prelude.{ℕ, zero, suc, ◌+◌, ◌<◌, ◌^◌, ◌≡◌, false, cond, List, [], ◌∷◌, ◌++◌, length}
-use Rattle.text.specs.Refusal.{accepted}
 use Rattle.field.specs.declared.NodeId.{NodeId}
 use Rattle.field.specs.declared.MaybeId.{MaybeId}
 use Rattle.field.specs.declared.MaybeId.TheVariants.{Absent, Present}
