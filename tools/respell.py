@@ -49,7 +49,7 @@ def files(root, ends):
 
 
 def is_function_proof(path):
-    return os.path.basename(path) in ("Proof.antt", "Answers.antt", "Invariants.antt")
+    return "/proofs/" in path.replace(os.sep, "/") and os.path.basename(path) in ("Proof.antt", "Answers.antt", "Invariants.antt")
 
 
 def declared(path):

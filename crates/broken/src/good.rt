@@ -1,7 +1,6 @@
 // Trees that break nothing, grown by calls.
 use desk::UiEvent;
 use field::NodeId;
-use tree::answers::Changed;
 use tree::{Size, StatePatch, Style, Ui, UiLimits, Viewport};
 
 // Which tree the damage is done to.
@@ -64,43 +63,83 @@ fn parent(k: u32) -> u32 {
     }
 }
 
-fn inserted(u: Ui, k: u32) -> Ui {
-    let r = u.insert(id(parent(k)));
-    r.tree
+// The calls, one by one. None is built into another, so that no frame has room for what two of them hold.
+#[inline(never)]
+fn inserted(u: &mut Ui, k: u32) {
+    let r = (*u).insert(id(parent(k)));
+    *u = r.tree;
+}
+
+#[inline(never)]
+fn removed(u: &mut Ui, i: u32) {
+    let r = (*u).remove(id(i));
+    *u = r.tree;
+}
+
+#[inline(never)]
+fn with_field(u: &mut Ui, i: u32) {
+    let r = (*u).make_field(id(i));
+    *u = r.tree;
+}
+
+#[inline(never)]
+fn pooled(u: &mut Ui) {
+    let r = (*u).set_patch_pool(patches(), 2);
+    *u = r.tree;
+}
+
+#[inline(never)]
+fn tabled(u: &mut Ui) {
+    let r = (*u).set_state_table(id(2), table());
+    *u = r.tree;
+}
+
+#[inline(never)]
+fn styled(u: &mut Ui) {
+    let r = (*u).set_style(id(2), plain(655360, 655360));
+    *u = r.tree;
+}
+
+#[inline(never)]
+fn solved(u: &mut Ui) {
+    let r = (*u).solve(view());
+    *u = r.tree;
+}
+
+#[inline(never)]
+fn handled(u: &mut Ui, e: UiEvent) {
+    let r = desk::handle(*u, e);
+    *u = r.tree;
 }
 
 // Slots 7 and 8 are freed again, so that the free chain is not in order: 8, 7, 9, 10, 11. Nodes 2 and 6 get fields, and 2 a table and a
 // box. Node 2 is clicked, and 7 and U+00E9 are typed, three bytes.
-fn acted(u: Ui, k: u32) -> Changed {
+fn acted(u: &mut Ui, k: u32) {
     match k {
-        8 => u.remove(id(7)),
-        9 => u.remove(id(8)),
-        10 => u.make_field(id(2)),
-        11 => u.make_field(id(6)),
-        12 => u.set_patch_pool(patches(), 2),
-        13 => u.set_state_table(id(2), table()),
-        14 => u.set_style(id(2), plain(655360, 655360)),
-        15 => u.solve(view()),
-        16 => desk::handle(u, UiEvent::PointerMoved { x: 5, y: 5 }),
-        17 => desk::handle(u, UiEvent::PointerPressed),
-        18 => desk::handle(u, UiEvent::PointerReleased),
-        19 => desk::handle(u, UiEvent::TextEntered { ch: 55 }),
-        _ => desk::handle(u, UiEvent::TextEntered { ch: 233 }),
+        8 => removed(u, 7),
+        9 => removed(u, 8),
+        10 => with_field(u, 2),
+        11 => with_field(u, 6),
+        12 => pooled(u),
+        13 => tabled(u),
+        14 => styled(u),
+        15 => solved(u),
+        16 => handled(u, UiEvent::PointerMoved { x: 5, y: 5 }),
+        17 => handled(u, UiEvent::PointerPressed),
+        18 => handled(u, UiEvent::PointerReleased),
+        19 => handled(u, UiEvent::TextEntered { ch: 55 }),
+        _ => handled(u, UiEvent::TextEntered { ch: 233 }),
     }
-}
-
-fn stepped(u: Ui, k: u32) -> Ui {
-    if k < 8 {
-        return inserted(u, k);
-    }
-    let r = acted(u, k);
-    r.tree
 }
 
 fn grown() -> Ui {
     let mut u = fresh(12);
     for k in 0..21 {
-        u = stepped(u, k);
+        if k < 8 {
+            inserted(&mut u, k);
+        } else {
+            acted(&mut u, k);
+        }
     }
     u
 }

@@ -60,22 +60,22 @@ fn main(rt: HostRuntime) -> io::Result<()> {
         let mut line = Line::malformed();
         match calls::kind_of(word) {
             Kind::Reading => {
-                line = turn::asked(c.tree, word);
+                line = turn::asked(&c.tree, word);
             }
             Kind::Change => {
-                c = turn::changed(c.tree, call, waiting);
+                turn::changed(&mut c, call, waiting);
                 waiting = waiting.after(word);
                 let v = c.verdict;
                 line = turn::plain(v);
             }
             Kind::Event(e) => {
-                c = desk::handle(c.tree, e);
+                turn::handled(&mut c, e);
                 let v = c.verdict;
                 line = turn::plain(v);
             }
             Kind::Both => {
-                line = turn::asked(c.tree, word);
-                c = turn::changed(c.tree, call, waiting);
+                line = turn::asked(&c.tree, word);
+                turn::changed(&mut c, call, waiting);
             }
             Kind::Patch(touches) => {
                 line = waiting.answer();

@@ -3,7 +3,7 @@ use crate::calls::{Call, Word};
 use crate::digest;
 use crate::waiting::Waiting;
 use arithmetic::fold::StateHash;
-use desk::Fingerprint;
+use desk::{Fingerprint, UiEvent};
 use field::metres::Metres;
 use field::{MaybeId, NodeId};
 use report::line::Line;
@@ -11,7 +11,7 @@ use report::words::at_most;
 use text::Measured;
 use text::refusal::Verdict;
 use tree::answers::{Caret, Changed, Liveness, Neighbour, NewId, NodeRect, TextLength};
-use tree::{Ui, UiLimits};
+use tree::{StatePatch, Style, Ui, UiLimits, Viewport};
 
 // The line of a call that answers nothing but whether it was accepted.
 pub(crate) fn plain(v: Verdict) -> Line {
@@ -95,8 +95,8 @@ fn measured(m: Measured) -> Line {
     }
 }
 
-fn text(tree: Ui, d: NodeId) -> Line {
-    let t = tree.field_text(d);
+fn text(tree: &Ui, d: NodeId) -> Line {
+    let t = (*tree).field_text(d);
     let a = t.answer;
     let bytes = t.bytes;
     text_of(a, bytes)
@@ -110,17 +110,17 @@ fn stored(id: MaybeId) -> Line {
 }
 
 // The calls that leave the tree as it is.
-pub(crate) fn asked(tree: Ui, word: Word) -> Line {
+pub(crate) fn asked(tree: &Ui, word: Word) -> Line {
     match word {
         Word::Text(d) => text(tree, d),
-        Word::Cursor(d) => caret(tree.field_cursor(d)),
-        Word::Metres(d) => metres(desk::metres(tree, d)),
-        Word::Rect(d) => rect(tree.rect(d)),
-        Word::Live(d) => liveness(tree.is_live(d)),
-        Word::First(d) => neighbour(tree.first_child(d)),
-        Word::Next(d) => neighbour(tree.next_sibling(d)),
-        Word::Absorb(state) => fingerprint(desk::absorb(tree, StateHash { state: state })),
-        Word::State => Line::accepted().hash(digest::state(tree)),
+        Word::Cursor(d) => caret((*tree).field_cursor(d)),
+        Word::Metres(d) => metres(desk::metres(*tree, d)),
+        Word::Rect(d) => rect((*tree).rect(d)),
+        Word::Live(d) => liveness((*tree).is_live(d)),
+        Word::First(d) => neighbour((*tree).first_child(d)),
+        Word::Next(d) => neighbour((*tree).next_sibling(d)),
+        Word::Absorb(state) => fingerprint(desk::absorb(*tree, StateHash { state: state })),
+        Word::State => Line::accepted().hash(digest::state(*tree)),
         Word::Measure(m) => measured(m),
         Word::Focus => {
             let i = tree.interaction;
@@ -139,83 +139,122 @@ pub(crate) fn asked(tree: Ui, word: Word) -> Line {
 }
 
 // The answer of an insertion. Its tree comes from a second call, `inserted`: a result with both would be one more tree on the stack.
-fn insertion(tree: Ui, d: NodeId) -> Line {
-    let i = tree.insert(d);
+fn insertion(tree: &Ui, d: NodeId) -> Line {
+    let i = (*tree).insert(d);
     let a = i.answer;
     new_id(a)
 }
 
-fn inserted(tree: Ui, d: NodeId) -> Changed {
-    let i = tree.insert(d);
-    let next = i.tree;
-    Changed {
+#[inline(never)]
+fn inserted(c: &mut Changed, d: NodeId) {
+    let i = c.tree.insert(d);
+    *c = Changed {
         verdict: Verdict::Accepted,
-        tree: next,
-    }
+        tree: i.tree,
+    };
 }
 
 // The answer of a taken output. Its tree comes from `without_output`, likewise.
-fn output(tree: Ui) -> Line {
-    let t = desk::next_output(tree);
+fn output(tree: &Ui) -> Line {
+    let t = desk::next_output(*tree);
     let a = t.answer;
     neighbour(a)
 }
 
-fn without_output(tree: Ui) -> Changed {
-    let t = desk::next_output(tree);
-    let next = t.tree;
-    Changed {
+#[inline(never)]
+fn without_output(c: &mut Changed) {
+    let t = desk::next_output(c.tree);
+    *c = Changed {
         verdict: Verdict::Accepted,
-        tree: next,
-    }
+        tree: t.tree,
+    };
 }
 
-// The tree after a call, and whether the call was accepted. Each arm returns by itself, so that one tree serves them all. The program's loop
-// hands events to the desk itself; the arm for them stays, since with one caller `handle` is built into that loop, whose stack all calls need.
-pub(crate) fn changed(tree: Ui, call: Call, waiting: Waiting) -> Changed {
-    let word = call.word;
-    let style = call.style;
-    let table = call.table;
-    let patches = waiting.patches;
-    match word {
+// The calls that change the tree. Each puts the next tree in the last one's place, and none is built into another: a frame with room for what
+// two of them hold would have it while either is made.
+#[inline(never)]
+fn begun(c: &mut Changed, limit: u32) {
+    *c = Ui::new(UiLimits { nodes: limit });
+}
+
+#[inline(never)]
+fn begun_at_origin(c: &mut Changed, limit: u32) {
+    *c = Ui::at_origin(UiLimits { nodes: limit });
+}
+
+#[inline(never)]
+fn removed(c: &mut Changed, d: NodeId) {
+    *c = c.tree.remove(d);
+}
+
+#[inline(never)]
+fn styled(c: &mut Changed, d: NodeId, style: Style) {
+    *c = c.tree.set_style(d, style);
+}
+
+#[inline(never)]
+fn tabled(c: &mut Changed, d: NodeId, table: [u16; 16]) {
+    *c = c.tree.set_state_table(d, table);
+}
+
+#[inline(never)]
+fn with_field(c: &mut Changed, d: NodeId) {
+    *c = c.tree.make_field(d);
+}
+
+#[inline(never)]
+fn solved(c: &mut Changed, view: Viewport) {
+    *c = c.tree.solve(view);
+}
+
+#[inline(never)]
+fn pooled(c: &mut Changed, patches: [StatePatch; 64], count: u32) {
+    *c = c.tree.set_patch_pool(patches, count);
+}
+
+#[inline(never)]
+pub(crate) fn handled(c: &mut Changed, e: UiEvent) {
+    *c = desk::handle(c.tree, e);
+}
+
+// The tree after a call, and whether the call was accepted.
+pub(crate) fn changed(c: &mut Changed, call: Call, waiting: Waiting) {
+    match call.word {
         Word::New(limit) => {
-            return Ui::new(UiLimits { nodes: limit });
+            begun(c, limit);
         }
         Word::Origin(limit) => {
-            return Ui::at_origin(UiLimits { nodes: limit });
+            begun_at_origin(c, limit);
         }
         Word::Insert(d) => {
-            return inserted(tree, d);
+            inserted(c, d);
         }
         Word::Remove(d) => {
-            return tree.remove(d);
+            removed(c, d);
         }
         Word::Style(d) => {
-            return tree.set_style(d, style);
+            styled(c, d, call.style);
         }
         Word::Table(d) => {
-            return tree.set_state_table(d, table);
+            tabled(c, d, call.table);
         }
         Word::Field(d) => {
-            return tree.make_field(d);
+            with_field(c, d);
         }
         Word::Solve(view) => {
-            return tree.solve(view);
+            solved(c, view);
         }
         Word::Event(e) => {
-            return desk::handle(tree, e);
+            handled(c, e);
         }
         Word::Output => {
-            return without_output(tree);
+            without_output(c);
         }
         Word::Pool => {
-            return tree.set_patch_pool(patches, waiting.count);
+            pooled(c, waiting.patches, waiting.count);
         }
         _ => {
-            return Changed {
-                verdict: Verdict::Accepted,
-                tree: tree,
-            };
+            c.verdict = Verdict::Accepted;
         }
     }
 }

@@ -8,8 +8,8 @@ mod wearing;
 
 ghost use Rattle.std.specs.Prelude.{◌≡◌};
 ghost use Rattle.field.specs.Metres.{answer_of};
-ghost use Rattle.tree.specs.Answers.{changedOf};
-ghost use Rattle.desk.specs.Answers.{taken_of, fingerprintOf};
+ghost use Rattle.tree.specs.Answers.{changed_of};
+ghost use Rattle.desk.specs.Answers.{taken_of, fingerprint_of};
 ghost use Rattle.desk.specs.Events as calls;
 
 use arithmetic::fold::StateHash;
@@ -45,7 +45,7 @@ pub enum Fingerprint {
 
 // An event, and the bits refreshed after it.
 pub fn handle(mut u: Ui, event: UiEvent) -> Changed
-    ensures { changedOf result ≡ calls.handle u event }
+    ensures { changed_of result ≡ calls.handle u event }
 {
     if rules::broken(u) {
         return Changed {
@@ -95,7 +95,7 @@ pub fn next_output(u: Ui) -> Taken
 
 // The fingerprint: the interaction on a fold that stands at some state.
 pub fn absorb(u: Ui, hash: StateHash) -> Fingerprint
-    ensures { fingerprintOf result ≡ (calls.absorb u hash).answer }
+    ensures { fingerprint_of result ≡ (calls.absorb u hash).answer }
 {
     if rules::broken(u) {
         return Fingerprint::Refused(Refusal::Broken);

@@ -1,6 +1,6 @@
 // The bits of nodes after an event.
 ghost use Rattle.std.specs.Prelude.{◌≡◌};
-ghost use Rattle.tree.specs.Answers.{changedOf};
+ghost use Rattle.tree.specs.Answers.{changed_of};
 ghost use Rattle.tree.specs.Calls.{gives};
 ghost use Rattle.tree.specs.Wearing.{refreshed};
 
@@ -15,7 +15,7 @@ use tree::answers::Changed;
 // Every stated slot, then the nodes hovered, pressed and in focus wear their bits; those of the three with bits are stated. Past the
 // slots nothing is stored: what is read there wears patch 0. One function, since each that takes and gives a tree copies it.
 pub(crate) fn refresh_states(mut u: Ui, hover: MaybeId) -> Changed
-    ensures { changedOf result ≡ gives (refreshed u hover) 0 }
+    ensures { changed_of result ≡ gives (refreshed u hover) 0 }
 {
     let limits = u.limits;
     let limit = limits.nodes;

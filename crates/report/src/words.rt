@@ -46,8 +46,7 @@ pub fn same(a: &[u8], b: &[u8]) -> bool
 
 // The first place from `at` on where the mark stands; the text's end where there is none.
 pub fn end_of(s: &[u8], mark: u8, at: usize) -> usize
-    requires { at ≤ length s.now }
-    ensures from { at ≤ result }
+    ensures from { at ≤ length s.now → at ≤ result }
     ensures within { result ≤ length s.now }
 {
     for i in at..s.len() {

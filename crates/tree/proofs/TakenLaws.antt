@@ -16,7 +16,7 @@ use Rattle.arithmetic.specs.Tests.{all, nothing}
 use Rattle.tree.specs.Trees.{limit_of, with_fields}
 use Rattle.arena.specs.Fields.{first_field, vacant, reclaimed, claimed, field_of}
 use Rattle.tree.specs.Calls.{Outcome, gives, refuses, take_vacant, take_field, make_field, of_field, on_field}
-use Rattle.tree.specs.Answers.{precheck, found_at, fieldPlace}
+use Rattle.tree.specs.Answers.{precheck, found_at, field_place}
 use Rattle.arena.specs.Support.Places.{place_of, field_at}
 use Rattle.arena.specs.declared.fields.Place.{Place}
 use Rattle.arena.specs.declared.fields.Place.TheVariants.{Nowhere, At}
@@ -62,8 +62,8 @@ module _ (u : Ui) (d : NodeId) {q : Place} (e : field_at u.fields q ≡ field_of
 -- ---- a read of a node's field, by where it is found
 
 module _ (u : Ui) (d : NodeId) {A : Type 0} (none : A) (read : Field → Outcome A) where
-  pub a_read_is_refused : (w : Refusal) → fieldPlace u d ≡ found.Refused w → refuses u w none ≡ on_field u d none read
-  unfolding fieldPlace on_field
+  pub a_read_is_refused : (w : Refusal) → field_place u d ≡ found.Refused w → refuses u w none ≡ on_field u d none read
+  unfolding field_place on_field
   a_read_is_refused w = go (precheck u d) (place_of d u.fields) refl refl
     where
       go : (v : Verdict) (p : Place) → precheck u d ≡ v → place_of d u.fields ≡ p → found_at v p ≡ found.Refused w → refuses u w none ≡ on_field u d none read
@@ -71,8 +71,8 @@ module _ (u : Ui) (d : NodeId) {A : Type 0} (none : A) (read : Field → Outcome
       go Accepted Nowhere s q e = let z : Fieldless ≡ w = cc in ap (λ (y : Refusal). refuses u y none) (sym z) ∙ without_a_field u d (the_place_has_the_field d u.fields) s none read q
       go Accepted (At i) s q e = let z : ◌≡◌ {A = ℕ} 0 1 = cc in absurd (omega arith)
 
-  pub a_read_finds_the_field : (i : ℕ) {f : Field} → fieldPlace u d ≡ found.At i → f ≡ get_or u.fields i empty_field → read f ≡ on_field u d none read
-  unfolding fieldPlace
+  pub a_read_finds_the_field : (i : ℕ) {f : Field} → field_place u d ≡ found.At i → f ≡ get_or u.fields i empty_field → read f ≡ on_field u d none read
+  unfolding field_place
   a_read_finds_the_field i {f} = go (precheck u d) (place_of d u.fields) refl refl
     where
       go : (v : Verdict) (p : Place) → precheck u d ≡ v → place_of d u.fields ≡ p → found_at v p ≡ found.At i → f ≡ get_or u.fields i empty_field → read f ≡ on_field u d none read

@@ -46,41 +46,41 @@ found_at (Refused word) p = found.Refused word
 found_at Accepted Nowhere = found.Refused Fieldless
 found_at Accepted (At i) = found.At i
 
-unfoldable pub fieldPlace : Ui → NodeId → FieldPlace
-fieldPlace u d = found_at (precheck u d) (place_of d u.fields)
+unfoldable pub field_place : Ui → NodeId → FieldPlace
+field_place u d = found_at (precheck u d) (place_of d u.fields)
 
-abbrev pub changedOf : Changed → Outcome ℕ
-changedOf r = record { next = r.tree; answer = record { number = verdict_of r.verdict; value = 0 } }
+abbrev pub changed_of : Changed → Outcome ℕ
+changed_of r = record { next = r.tree; answer = record { number = verdict_of r.verdict; value = 0 } }
 
-abbrev pub newIdOf : NewId → Answer NodeId
-newIdOf (new.Id d) = accepted d
-newIdOf (new.Refused word) = refused word nobody
+abbrev pub new_id_of : NewId → Answer NodeId
+new_id_of (new.Id d) = accepted d
+new_id_of (new.Refused word) = refused word nobody
 
-abbrev pub insertedOf : Inserted → Outcome NodeId
-insertedOf r = record { next = r.tree; answer = newIdOf r.answer }
+abbrev pub inserted_of : Inserted → Outcome NodeId
+inserted_of r = record { next = r.tree; answer = new_id_of r.answer }
 
 -- A refused read gives 64 bytes of 0.
-abbrev pub textAnswer : TextLength → List ℕ → Answer Shown
-textAnswer (text.Bytes n) bytes' = accepted (record { bytes = bytes'; len = n })
-textAnswer (text.Refused word) bytes' = refused word (record { bytes = bytes'; len = 0 })
+abbrev pub text_answer : TextLength → List ℕ → Answer Shown
+text_answer (text.Bytes n) bytes' = accepted (record { bytes = bytes'; len = n })
+text_answer (text.Refused word) bytes' = refused word (record { bytes = bytes'; len = 0 })
 
-abbrev pub fieldTextOf : FieldText → Answer Shown
-fieldTextOf r = textAnswer r.answer r.bytes
+abbrev pub field_text_of : FieldText → Answer Shown
+field_text_of r = text_answer r.answer r.bytes
 
-abbrev pub caretAnswer : Caret → Answer ℕ
-caretAnswer (caret.At n) = accepted n
-caretAnswer (caret.Refused word) = refused word 0
+abbrev pub caret_answer : Caret → Answer ℕ
+caret_answer (caret.At n) = accepted n
+caret_answer (caret.Refused word) = refused word 0
 
-abbrev pub rectOf : NodeRect → Answer Rect
-rectOf (box.At r) = accepted r
-rectOf (box.Refused word) = refused word no_rect
+abbrev pub rect_of : NodeRect → Answer Rect
+rect_of (box.At r) = accepted r
+rect_of (box.Refused word) = refused word no_rect
 
-abbrev pub livenessOf : Liveness → Answer Bool
-livenessOf life.Dead = accepted false
-livenessOf life.Live = accepted true
-livenessOf (life.Refused word) = refused word false
+abbrev pub liveness_of : Liveness → Answer Bool
+liveness_of life.Dead = accepted false
+liveness_of life.Live = accepted true
+liveness_of (life.Refused word) = refused word false
 
-abbrev pub neighbourOf : Neighbour → Answer MaybeId
-neighbourOf near.Nobody = accepted Absent
-neighbourOf (near.Node d) = accepted (Present d)
-neighbourOf (near.Refused word) = refused word Absent
+abbrev pub neighbour_of : Neighbour → Answer MaybeId
+neighbour_of near.Nobody = accepted Absent
+neighbour_of (near.Node d) = accepted (Present d)
+neighbour_of (near.Refused word) = refused word Absent

@@ -9,7 +9,7 @@ mod start;
 mod wearing;
 
 ghost use Rattle.std.specs.Prelude.{◌≡◌};
-ghost use Rattle.tree.specs.Answers.{precheck, fieldPlace, changedOf, insertedOf, rectOf, livenessOf, neighbourOf, fieldTextOf, caretAnswer};
+ghost use Rattle.tree.specs.Answers.{precheck, field_place, changed_of, inserted_of, rect_of, liveness_of, neighbour_of, field_text_of, caret_answer};
 ghost use Rattle.tree.specs.Calls.{new_tree, insert, remove, live, rect, first_child, next_sibling, field_text, field_cursor, make_field, take_field, solve, set_style, set_state_table, set_patch_pool};
 ghost use Rattle.arithmetic.specs.Tests.{nothing};
 ghost use Rattle.boxes.specs.declared.StartKind.TheVariants.{New, AtOrigin};
@@ -77,14 +77,14 @@ pub struct Ui {
 impl Ui {
     // A tree with its root alone, and the pointer nowhere. A limit of 0 means 1; above 128 it is refused, and the tree has the limit 1.
     pub fn new(limits: UiLimits) -> Changed
-        ensures { changedOf result ≡ new_tree New limits.nodes }
+        ensures { changed_of result ≡ new_tree New limits.nodes }
     {
         start::new_tree(StartKind::New, limits.nodes)
     }
 
     // The same with the pointer at (0, 0).
     pub fn at_origin(limits: UiLimits) -> Changed
-        ensures { changedOf result ≡ new_tree AtOrigin limits.nodes }
+        ensures { changed_of result ≡ new_tree AtOrigin limits.nodes }
     {
         start::new_tree(StartKind::AtOrigin, limits.nodes)
     }
@@ -116,7 +116,7 @@ impl Ui {
 
     // Whether the id names a live node.
     pub fn is_live(self, d: NodeId) -> Liveness
-        ensures { livenessOf result ≡ (live self d).answer }
+        ensures { liveness_of result ≡ (live self d).answer }
     {
         if rules::broken(self) {
             return Liveness::Refused(Refusal::Broken);
@@ -131,7 +131,7 @@ impl Ui {
 
     // The node's box, of the last pass.
     pub fn rect(self, d: NodeId) -> NodeRect
-        ensures { rectOf result ≡ (rect self d).answer }
+        ensures { rect_of result ≡ (rect self d).answer }
     {
         match self.precheck(d) {
             Verdict::Refused(word) => NodeRect::Refused(word),
@@ -144,7 +144,7 @@ impl Ui {
 
     // The node's next sibling.
     pub fn next_sibling(self, d: NodeId) -> Neighbour
-        ensures { neighbourOf result ≡ (next_sibling self d).answer }
+        ensures { neighbour_of result ≡ (next_sibling self d).answer }
     {
         match self.precheck(d) {
             Verdict::Refused(word) => Neighbour::Refused(word),
@@ -158,7 +158,7 @@ impl Ui {
 
     // The node's first child; a dead node has none.
     pub fn first_child(self, d: NodeId) -> Neighbour
-        ensures { neighbourOf result ≡ (first_child self d).answer }
+        ensures { neighbour_of result ≡ (first_child self d).answer }
     {
         if rules::broken(self) {
             return Neighbour::Refused(Refusal::Broken);
@@ -174,7 +174,7 @@ impl Ui {
 
     // A new last child of a node.
     pub fn insert(self, parent: NodeId) -> Inserted
-        ensures { insertedOf result ≡ insert self parent }
+        ensures { inserted_of result ≡ insert self parent }
     {
         match self.precheck(parent) {
             Verdict::Refused(word) => {
@@ -204,7 +204,7 @@ impl Ui {
 
     // The node and all below it leave the tree.
     pub fn remove(self, d: NodeId) -> Changed
-        ensures { changedOf result ≡ remove self d }
+        ensures { changed_of result ≡ remove self d }
     {
         match self.precheck(d) {
             Verdict::Refused(word) => {
@@ -231,7 +231,7 @@ impl Ui {
 
     // Where a read finds the node's field: every read of a field is refused as this is.
     pub fn field_place(self, d: NodeId) -> FieldPlace
-        ensures { result ≡ fieldPlace self d }
+        ensures { result ≡ field_place self d }
     {
         match self.precheck(d) {
             Verdict::Refused(word) => FieldPlace::Refused(word),
@@ -247,7 +247,7 @@ impl Ui {
 
     // The text of the node's field, 0 past its length.
     pub fn field_text(self, d: NodeId) -> FieldText
-        ensures { fieldTextOf result ≡ (field_text self d).answer }
+        ensures { field_text_of result ≡ (field_text self d).answer }
     {
         match self.field_place(d) {
             FieldPlace::Refused(word) => {
@@ -271,7 +271,7 @@ impl Ui {
 
     // Where the caret of the node's field stands.
     pub fn field_cursor(self, d: NodeId) -> Caret
-        ensures { caretAnswer result ≡ (field_cursor self d).answer }
+        ensures { caret_answer result ≡ (field_cursor self d).answer }
     {
         match self.field_place(d) {
             FieldPlace::Refused(word) => Caret::Refused(word),
@@ -285,7 +285,7 @@ impl Ui {
 
     // A field for the node; one that it has stays.
     pub fn make_field(self, d: NodeId) -> Changed
-        ensures { changedOf result ≡ make_field self d }
+        ensures { changed_of result ≡ make_field self d }
     {
         match self.precheck(d) {
             Verdict::Refused(word) => Changed {
@@ -307,7 +307,7 @@ impl Ui {
 
     // The first free field for a node that has none, after those of dead owners are cleared.
     fn take_field(self, d: NodeId) -> Changed
-        ensures { changedOf result ≡ take_field self d nothing }
+        ensures { changed_of result ≡ take_field self d nothing }
     {
         let limits = self.limits;
         let slots = self.slots;
@@ -330,7 +330,7 @@ impl Ui {
 
     // A layout pass, where one is due or the viewport is another.
     pub fn solve(self, view: Viewport) -> Changed
-        ensures { changedOf result ≡ solve self view }
+        ensures { changed_of result ≡ solve self view }
     {
         if rules::broken(self) {
             return Changed {
@@ -361,7 +361,7 @@ impl Ui {
 
     // The node's base style.
     pub fn set_style(self, d: NodeId, style: Style) -> Changed
-        ensures { changedOf result ≡ set_style self d style }
+        ensures { changed_of result ≡ set_style self d style }
     {
         match self.precheck(d) {
             Verdict::Refused(word) => Changed {
@@ -380,7 +380,7 @@ impl Ui {
 
     // The node's sixteen patch numbers.
     pub fn set_state_table(self, d: NodeId, table: [u16; 16]) -> Changed
-        ensures { changedOf result ≡ set_state_table self d table }
+        ensures { changed_of result ≡ set_state_table self d table }
     {
         match self.precheck(d) {
             Verdict::Refused(word) => Changed {
@@ -405,7 +405,7 @@ impl Ui {
 
     // The pool: the first `count` of the patches. Every table and all bits are cleared.
     pub fn set_patch_pool(self, patches: [StatePatch; 64], count: u32) -> Changed
-        ensures { changedOf result ≡ set_patch_pool self patches count }
+        ensures { changed_of result ≡ set_patch_pool self patches count }
     {
         if rules::broken(self) {
             return Changed {

@@ -5,7 +5,7 @@ ghost use Rattle.arena.specs.Support.Lists.{walked};
 ghost use Rattle.arithmetic.specs.Tests.{same};
 ghost use Rattle.field.specs.declared.MaybeId.TheVariants.{Absent, Present};
 ghost use Rattle.text.specs.Refusal.{accepted};
-ghost use Rattle.tree.specs.Answers.{neighbourOf};
+ghost use Rattle.tree.specs.Answers.{neighbour_of};
 ghost use Rattle.tree.specs.Calls.{insert_at, with_freed};
 
 use crate::answers::Neighbour;
@@ -60,7 +60,7 @@ pub(crate) fn remove_at(mut u: Ui, index: u32) -> Ui
 
 // The node that a link leads to.
 pub(crate) fn neighbour(slots: [Slot; 128], i: u32) -> Neighbour
-    ensures { neighbourOf result ≡ accepted (cond (same i NIL) Absent (Present (id_at slots i))) }
+    ensures { neighbour_of result ≡ accepted (cond (same i NIL) Absent (Present (id_at slots i))) }
 {
     if i == NIL {
         return Neighbour::Nobody;

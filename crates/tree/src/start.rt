@@ -2,7 +2,7 @@
 ghost use Rattle.std.specs.Prelude.{◌≡◌, false, cond, ltb, replicate};
 ghost use Rattle.boxes.specs.Styles.{fresh_style};
 ghost use Rattle.field.specs.Fields.{empty_field};
-ghost use Rattle.tree.specs.Answers.{changedOf};
+ghost use Rattle.tree.specs.Answers.{changed_of};
 ghost use Rattle.tree.specs.Calls.{fresh, new_tree};
 ghost use Rattle.arena.specs.Slots.{NIL, nobody};
 
@@ -92,7 +92,7 @@ fn fresh(pointer: Pointer, n: u32) -> Ui
 
 // What a start gives. A limit of 0 means 1; above 128 it is refused, and the tree has the limit 1.
 pub fn new_tree(kind: StartKind, n: u32) -> Changed
-    ensures { changedOf result ≡ new_tree kind n }
+    ensures { changed_of result ≡ new_tree kind n }
 {
     let pointer = start::first_pointer(kind);
     if 128 < n {
