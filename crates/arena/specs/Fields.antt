@@ -1,29 +1,23 @@
 -- Document 01, **Tree**: the eight fields and their owners.
-use Rattle.std.specs.Prelude.{ℕ, Bool, true, false, cond, not, List, [], ◌∷◌, map, replicate}
+use Rattle.std.specs.Prelude.{ℕ, Bool, true, false, cond, not, List, [], ◌∷◌, map, replicate, None, Option, Some}
+-- The first field that passes a test.
+pub use Rattle.std.specs.List.{find as first_field}
 use Rattle.field.specs.Fields.{empty_field, own_field}
 use Rattle.field.specs.declared.NodeId.{NodeId}
-use Rattle.field.specs.declared.MaybeId.{MaybeId}
-use Rattle.field.specs.declared.MaybeId.TheVariants.{Absent, Present}
 use Rattle.field.specs.declared.Field.{Field}
-use Rattle.arithmetic.specs.Tests.{Maybe, nothing, just}
 use Rattle.arena.specs.Slots.{Slots, is_live, is_id}
-
--- The first field that passes a test.
-abbrev pub first_field : (Field → Bool) → List Field → Maybe Field
-first_field p [] = nothing
-first_field p (f ∷ fs) = cond (p f) (just f) (first_field p fs)
 
 -- The node's own field.
 abbrev pub owns : NodeId → Field → Bool
 owns d f = is_id f.owner d
 
-unfoldable pub field_of : NodeId → List Field → Maybe Field
+unfoldable pub field_of : NodeId → List Field → Option Field
 field_of d fs = first_field (owns d) fs
 
 -- A field whose owner is dead is nobody's, and empty.
-abbrev pub owner_dead : ℕ → Slots → MaybeId → Bool
-owner_dead limit s Absent = false
-owner_dead limit s (Present d) = not (is_live limit s d)
+abbrev pub owner_dead : ℕ → Slots → Option NodeId → Bool
+owner_dead limit s None = false
+owner_dead limit s (Some d) = not (is_live limit s d)
 
 unfoldable pub reclaimed : ℕ → Slots → List Field → List Field
 reclaimed limit s fs = map (λ (f : Field). cond (owner_dead limit s f.owner) empty_field f) fs
@@ -31,9 +25,9 @@ reclaimed limit s fs = map (λ (f : Field). cond (owner_dead limit s f.owner) em
 abbrev pub vacant : Field → Bool
 vacant f = pick' f.owner
   where
-    pick' : MaybeId → Bool
-    pick' Absent = true
-    pick' (Present d) = false
+    pick' : Option NodeId → Bool
+    pick' None = true
+    pick' (Some d) = false
 
 -- The first field that passes a test, changed.
 abbrev pub change_first : (Field → Bool) → (Field → Field) → List Field → List Field

@@ -1,10 +1,8 @@
 -- Document 01, the history: a list of trees. A node has the id that it was given (index and generation), what is known of it, its
 -- children in order, and the trees after it.
-use Rattle.std.specs.Prelude.{ℕ, suc, ◌+◌, Bool, false, cond, ◌&&◌, ◌||◌, List, [], ◌∷◌}
+use Rattle.std.specs.Prelude.{ℕ, suc, ◌+◌, Bool, false, cond, ◌&&◌, ◌||◌, List, [], ◌∷◌, None, Option, Some}
 use Rattle.field.specs.declared.NodeId.{NodeId}
-use Rattle.field.specs.declared.MaybeId.{MaybeId}
-use Rattle.field.specs.declared.MaybeId.TheVariants.{Absent, Present}
-use Rattle.arithmetic.specs.Tests.{same, Maybe, nothing, just}
+use Rattle.arithmetic.specs.Tests.{same}
 
 pub data Forest (X : Type 0) : Type 0 where
   nil : Forest X
@@ -15,9 +13,9 @@ abbrev pub has_both : NodeId → ℕ → ℕ → Bool
 has_both d i g = same i d.index && same g d.generation
 
 -- The first of two that is there.
-abbrev pub or_id : MaybeId → MaybeId → MaybeId
-or_id Absent o = o
-or_id (Present d) o = Present d
+abbrev pub or_id : Option NodeId → Option NodeId → Option NodeId
+or_id None o = o
+or_id (Some d) o = Some d
 
 module _ {X : Type 0} where
   -- One list of trees after another.
@@ -45,13 +43,13 @@ module _ {X : Type 0} where
   cut_of d (node i g x cs sib) = cond (has_both d i g) sib (node i g x (cut_of d cs) (cut_of d sib))
 
   -- What is known of the node that has the id.
-  abbrev pub or_else : Maybe X → Maybe X → Maybe X
-  or_else nothing y = y
-  or_else (just x) y = just x
+  abbrev pub or_else : Option X → Option X → Option X
+  or_else None y = y
+  or_else (Some x) y = Some x
 
-  abbrev pub find : NodeId → Forest X → Maybe X
-  find d nil = nothing
-  find d (node i g x cs sib) = cond (has_both d i g) (just x) (or_else (find d cs) (find d sib))
+  abbrev pub find : NodeId → Forest X → Option X
+  find d nil = None
+  find d (node i g x cs sib) = cond (has_both d i g) (Some x) (or_else (find d cs) (find d sib))
 
   -- The ids of the topmost nodes in order.
   abbrev pub ids : Forest X → List NodeId
@@ -59,12 +57,12 @@ module _ {X : Type 0} where
   ids (node i g x cs sib) = record { index = i; generation = g } ∷ ids sib
 
   -- The first of the topmost nodes, and the node after the one that has the id.
-  abbrev pub first_id : Forest X → MaybeId
-  first_id nil = Absent
-  first_id (node i g x cs sib) = Present (record { index = i; generation = g })
+  abbrev pub first_id : Forest X → Option NodeId
+  first_id nil = None
+  first_id (node i g x cs sib) = Some (record { index = i; generation = g })
 
-  abbrev pub next_id : NodeId → Forest X → MaybeId
-  next_id d nil = Absent
+  abbrev pub next_id : NodeId → Forest X → Option NodeId
+  next_id d nil = None
   next_id d (node i g x cs sib) = cond (has_both d i g) (first_id sib) (or_id (next_id d cs) (next_id d sib))
 
   -- How many nodes there are.

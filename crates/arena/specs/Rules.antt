@@ -1,8 +1,7 @@
 -- Document 01, "Link rules": those on slots, on the slots stated and on fields.
-use Rattle.std.specs.Prelude.{ℕ, ◌+◌, Bool, true, cond, not, ◌&&◌, ltb, List, [], ◌∷◌, length, nat_lt}
+use Rattle.field.specs.declared.NodeId.{NodeId}
+use Rattle.std.specs.Prelude.{ℕ, ◌+◌, Bool, true, cond, not, ◌&&◌, ltb, List, [], ◌∷◌, length, nat_lt, None, Option, Some}
 use Rattle.field.specs.declared.Field.{Field}
-use Rattle.field.specs.declared.MaybeId.{MaybeId}
-use Rattle.field.specs.declared.MaybeId.TheVariants.{Absent, Present}
 use Rattle.arithmetic.specs.Tests.{same, occ, head_or, final_or, from_to, all}
 use Rattle.arena.specs.Slots.{NIL, Slots, at, chain, kids_at, order, is_id}
 use Rattle.arena.specs.declared.Slot.{Slot}
@@ -58,9 +57,9 @@ distinct n [] = true
 distinct n (i ∷ is) = nat_lt i n && (same (occ i is) 0 && distinct n is)
 
 -- None of the fields has this owner.
-abbrev pub lone : MaybeId → List Field → Bool
-lone Absent fs = true
-lone (Present d) fs = all (λ (g : Field). not (is_id g.owner d)) fs
+abbrev pub lone : Option NodeId → List Field → Bool
+lone None fs = true
+lone (Some d) fs = all (λ (g : Field). not (is_id g.owner d)) fs
 
 -- No two fields with one owner.
 unfoldable pub owners_well : List Field → Bool

@@ -1,8 +1,6 @@
 -- Document 01, **Tree**: slots, their links, and the ids that name them.
-use Rattle.std.specs.Prelude.{ℕ, zero, suc, ◌+◌, ◌%◌, ◌^◌, Bool, true, false, cond, ◌&&◌, List, [], ◌∷◌, ◌++◌, nat_lt, slice_index_or, slice_set}
+use Rattle.std.specs.Prelude.{ℕ, zero, suc, ◌+◌, ◌%◌, ◌^◌, Bool, true, false, cond, ◌&&◌, List, [], ◌∷◌, ◌++◌, nat_lt, slice_index_or, slice_set, None, Option, Some}
 use Rattle.field.specs.declared.NodeId.{NodeId}
-use Rattle.field.specs.declared.MaybeId.{MaybeId}
-use Rattle.field.specs.declared.MaybeId.TheVariants.{Absent, Present}
 use Rattle.arithmetic.specs.Tests.{same}
 use Rattle.arena.specs.declared.Slot.{Slot}
 
@@ -58,9 +56,9 @@ id_at s i = record { index = i; generation = (at s i).generation }
 abbrev pub same_id : NodeId → NodeId → Bool
 same_id d e = same d.index e.index && same d.generation e.generation
 
-abbrev pub is_id : MaybeId → NodeId → Bool
-is_id Absent d = false
-is_id (Present e) d = same_id e d
+abbrev pub is_id : Option NodeId → NodeId → Bool
+is_id None d = false
+is_id (Some e) d = same_id e d
 
 -- The id that stands where there is none.
 abbrev pub nobody : NodeId

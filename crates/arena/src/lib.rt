@@ -3,10 +3,12 @@
 
 pub mod fields;
 pub mod links;
+pub mod listed;
 pub mod rules;
 
 // A slot's links. Of a dead slot only the next link means something: the free chain's.
-#[derive(Clone, Copy)]
+// Kept: `live` beside the links and no variant, since document 01's rules and digest speak of every number of a slot, a dead one's too.
+#[derive(Clone, Copy, Debug, Default, PartialEq, Eq)]
 pub struct Slot {
     pub generation: u64,
     pub live: bool,

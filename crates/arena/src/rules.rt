@@ -1,203 +1,135 @@
 // The link rules: whether the slots' links make one tree and one free chain.
-ghost use Rattle.std.specs.Prelude.{◌≡◌, ℕ, ◌+◌, ◌<◌, ◌≤◌, ◌&&◌, List, [], ◌∷◌, take, nat_le, nat_lt};
-ghost use Rattle.arithmetic.specs.Tests.{same, head_or, all, from_to};
-ghost use Rattle.arena.specs.Slots.{NIL, at, chain, order};
-ghost use Rattle.arena.specs.Support.Lists.{order_of, added, Small, Tallied};
-ghost use Rattle.arena.specs.Rules.{aliveness, once, node_well, free_well, each_once, root_well, linked};
+ghost use Rattle.std.specs.Prelude.{◌≡◌, ℕ, ◌≤◌, ◌&&◌, [], ◌∷◌, take, zip, nat_le, nat_lt};
+ghost use Rattle.arithmetic.specs.Tests.{same, head_or, all};
+ghost use Rattle.arena.specs.Slots.{NIL, at, chain, kids_at, order};
+ghost use Rattle.arena.specs.Support.Lists.{listed, added_all, once_by, Small, Tallied};
+ghost use Rattle.arena.specs.Rules.{node_well, free_well, each_once, root_well, linked};
 
 use crate::Slot;
+use crate::links::{NIL, read};
+use crate::listed::Listed;
 
-// No neighbour.
-const NIL: u32 = 4294967295;
-
-// What a walk along links listed, the first `count` items, and whether the links that it went along are right.
+// What a walk along links listed, and whether the links that it went along are right.
+// Kept: the list is asked for where the links are wrong, too, so that `well` is no `Result`.
 #[derive(Clone, Copy)]
 pub struct Walked {
-    pub items: [u32; 128],
-    pub count: u32,
+    pub order: Listed<128>,
     pub well: bool,
 }
 
-// One slot more behind the first `count` items, where there is room; returns how many are listed then.
-fn push(items: &mut [u32; 128], count: u32, i: u32) -> u32
-    ensures { order_of items.new result ≡ added (order_of items.old count) i }
+// The list with the children of a node behind it, and whether the links of the node to them are right.
+fn list_children(slots: &[Slot; 128], node: u32, order: &mut Listed<128>) -> bool
+    ensures { (order.new ≡ added_all order.old (kids_at slots.now node)) × (result ≡ node_well slots.now node) }
 {
-    if 128 <= count {
-        return count;
-    }
-    let k = count as usize;
-    items[k] = i;
-    count + 1
-}
-
-// The slots reached from `start`, parents before children, and whether the links of each to its children are right. The list is its
-// own queue: `at` is the place of the node whose children are passed.
-fn reach(slots: [Slot; 128], start: u32) -> Walked
-    requires { start < 128 }
-    ensures { (result.count ≤ 128) × Small result.items × (take result.count result.items ≡ order 128 slots (start ∷ [])) × (result.well ≡ all (node_well slots) (order 128 slots (start ∷ []))) }
-{
-    let mut items = [0u32; 128];
-    items[0] = start;
-    let mut count: u32 = 1;
-    let mut at: u32 = 0;
-    let first = start as usize;
-    let mut s = slots[first];
-    let mut node = start;
+    let s = read(slots, node);
     let mut child = s.first_child;
-    let mut last = s.last_child;
     let mut prev = NIL;
-    let mut left: u32 = 128;
     let mut well = true;
-    while at < count {
-        if child < 128 {
-            if 0 < left {
-                let k = child as usize;
-                s = slots[k];
-                well = well & ((s.parent == node) & (s.prev_sibling == prev));
-                count = push(&mut items, count, child);
-                prev = child;
-                child = s.next_sibling;
-                left -= 1;
-                continue;
-            }
-        }
-        well = well & ((child == NIL) & (last == prev));
-        at += 1;
-        if count <= at {
-            return Walked { items, count, well };
-        }
-        let k = at as usize;
-        node = items[k];
-        let k = (node % 128) as usize;
-        s = slots[k];
-        child = s.first_child;
-        last = s.last_child;
-        prev = NIL;
-        left = 128;
+    // As many steps as there are slots, so that links that lead round end the walk.
+    // Kept: a walk along links, here and in `free_chain`, written out: each looks at the links on its way, and an iterator's items would have to be proved the chain's.
+    for _ in 0..128u32 {
+        let Some(c) = slots.get(child as usize) else {
+            break
+        };
+        well = well & ((c.parent == node) & (c.prev_sibling == prev));
+        order.push(child);
+        prev = child;
+        child = c.next_sibling;
     }
-    Walked { items, count, well }
+    well & ((child == NIL) & (s.last_child == prev))
 }
 
-// The slots reached from the root.
+// The slots reached from the root, parents before children, and whether the links of each to its children are right. The list is its
+// own queue: `at` is the place of the node whose children are passed.
 pub fn reach_root(slots: [Slot; 128]) -> Walked
-    ensures { (result.count ≤ 128) × Small result.items × (take result.count result.items ≡ order 128 slots (0 ∷ [])) × (result.well ≡ all (node_well slots) (order 128 slots (0 ∷ []))) }
+    ensures { (result.order.count ≤ 128) × Small result.order.items × (listed result.order ≡ order 128 slots (0 ∷ [])) × (result.well ≡ all (node_well slots) (order 128 slots (0 ∷ []))) }
 {
-    reach(slots, 0)
+    let mut order = Listed::new();
+    order.push(0);
+    let mut well = true;
+    let mut at = 0;
+    // Kept: the list grows while it is read, so that no iterator can hold it.
+    while at < order.count {
+        let node = order.items[at];
+        well = well & list_children(&slots, node, &mut order);
+        at += 1;
+    }
+    Walked { order, well }
 }
 
 // The slots from `free` on by next links, and whether the last has none.
-fn free_chain(slots: [Slot; 128], free: u32) -> Walked
-    ensures { (result.count ≤ 128) × Small result.items × (take result.count result.items ≡ chain 128 slots free) × (result.well ≡ (same free (head_or NIL (chain 128 slots free)) && free_well slots (chain 128 slots free))) }
+fn free_chain(slots: &[Slot; 128], free: u32) -> Walked
+    ensures { (listed result.order ≡ chain 128 slots.now free) × (result.well ≡ (same free (head_or NIL (chain 128 slots.now free)) && free_well slots.now (chain 128 slots.now free))) }
 {
-    let mut items = [0u32; 128];
-    let mut count: u32 = 0;
+    let mut order = Listed::new();
     let mut i = free;
-    while i < 128 {
-        if 128 <= count {
-            return Walked {
-                items,
-                count,
-                well: false,
-            };
-        }
-        let n = count as usize;
-        items[n] = i;
-        count += 1;
-        let k = i as usize;
-        let s = slots[k];
+    for _ in 0..128u32 {
+        let Some(s) = slots.get(i as usize) else {
+            break
+        };
+        order.push(i);
         i = s.next_sibling;
     }
-    let well = i == NIL;
-    Walked { items, count, well }
+    Walked {
+        order,
+        well: i == NIL,
+    }
 }
 
-// How often each slot is among the first `count` items.
-fn tally(items: [u32; 128], count: u32) -> [u32; 128]
-    requires { (count ≤ 128) × Small items }
-    ensures { Tallied result (take count items) }
+// How often each slot is listed.
+fn tally(o: &Listed<128>) -> [u32; 128]
+    ensures { Tallied result (listed o.now) }
 {
     let mut times = [0u32; 128];
-    let mut k: u32 = 0;
-    while k < count {
-        let n = k as usize;
-        let i = (items[n] % 128) as usize;
-        let t = times[i];
-        times[i] = t + 1;
-        k += 1;
+    for i in o.as_slice() {
+        let k = *i as usize;
+        if k < times.len() {
+            times[k] += 1;
+        }
     }
     times
 }
 
-// 1 where the slot is live, else 0.
-fn live_count(s: Slot) -> u32
-    ensures { result ≡ aliveness s }
-{
-    if s.live {
-        return 1;
-    }
-    0
-}
-
 // Whether a slot is in one of two lists once, and in the first just where it is live: how often it is in each.
+#[tactic(auto, unfolding(arithmetic::specs::Tests::same))]
 fn once_well(s: Slot, reached: u32, free: u32) -> bool
-    ensures { result ≡ (same reached (aliveness s) && same (reached + free) 1) }
+    ensures { result ≡ once_by s reached free }
 {
-    let live = live_count(s);
     let total = (reached as u64) + (free as u64);
-    (reached == live) & (total == 1)
+    (reached == s.live as u32) & (total == 1)
 }
 
 // Whether that holds of every slot below the limit.
-fn all_once(limit: u32, slots: [Slot; 128], reached: [u32; 128], free: [u32; 128]) -> bool
-    requires { limit ≤ 128 }
-    ensures { (l m : List ℕ) → Tallied reached l → Tallied free m → result ≡ all (once slots l m) (from_to 0 limit) }
+fn all_once(limit: u32, slots: &[Slot; 128], reached: &[u32; 128], free: &[u32; 128]) -> bool
+    ensures { result ≡ all (λ x. once_by x.0 x.1.0 x.1.1) (take limit (zip slots.now (zip reached.now free.now))) }
 {
-    let mut i: u32 = 0;
-    while i < limit {
-        let k = i as usize;
-        let s = slots[k];
-        if !once_well(s, reached[k], free[k]) {
-            return false;
-        }
-        i += 1;
-    }
-    true
+    slots
+        .iter()
+        .zip(reached.iter().zip(free.iter()))
+        .take(limit as usize)
+        .all(|(s, (r, f))| once_well(*s, *r, *f))
 }
 
-// Whether the first `count` items are all below the limit.
-fn all_below(limit: u32, items: [u32; 128], count: u32) -> bool
-    requires { count ≤ 128 }
-    ensures { result ≡ all (λ (i : ℕ). nat_lt i limit) (take count items) }
+// Whether all listed are below the limit.
+fn all_below(limit: u32, o: &Listed<128>) -> bool
+    ensures { result ≡ all (λ (i : ℕ). nat_lt i limit) (listed o.now) }
 {
-    let mut k: u32 = 0;
-    while k < count {
-        let n = k as usize;
-        if limit <= items[n] {
-            return false;
-        }
-        k += 1;
-    }
-    true
+    o.as_slice().iter().all(|i| *i < limit)
 }
 
 // Whether each live slot is reached once, each dead one is free once, and nothing else is in either list.
-fn each_once(limit: u32, slots: [Slot; 128], reached: Walked, free: Walked) -> bool
-    requires { (limit ≤ 128) × ((reached.count ≤ 128) × Small reached.items) × ((free.count ≤ 128) × Small free.items) }
-    ensures { result ≡ each_once limit slots (take reached.count reached.items) (take free.count free.items) }
+fn each_once(limit: u32, slots: &[Slot; 128], reached: &Listed<128>, free: &Listed<128>) -> bool
+    requires { limit ≤ 128 }
+    ensures { result ≡ each_once limit slots.now (listed reached.now) (listed free.now) }
 {
-    let l = reached.items;
-    let m = free.items;
-    let a = tally(l, reached.count);
-    let b = tally(m, free.count);
-    let once = all_once(limit, slots, a, b);
-    let live = all_below(limit, l, reached.count);
-    let dead = all_below(limit, m, free.count);
-    once & (live & dead)
+    let once = all_once(limit, slots, &tally(reached), &tally(free));
+    once & (all_below(limit, reached) & all_below(limit, free))
 }
 
 // Whether slot 0 is live and alone at the top.
-fn root_well(slots: [Slot; 128]) -> bool
-    ensures { result ≡ root_well slots }
+#[tactic(auto, unfolding(crate::specs::Slots::at, arithmetic::specs::Tests::same))]
+fn root_well(slots: &[Slot; 128]) -> bool
+    ensures { result ≡ root_well slots.now }
 {
     let s = slots[0];
     s.live & ((s.parent == NIL) & ((s.prev_sibling == NIL) & (s.next_sibling == NIL)))
@@ -210,9 +142,9 @@ pub fn links_well(limit: u32, slots: [Slot; 128], free: u32, live: u32) -> bool
     if 128 < limit {
         return false;
     }
-    let reached = reach(slots, 0);
-    let chain = free_chain(slots, free);
-    let root = root_well(slots);
-    let each = each_once(limit, slots, reached, chain);
-    root & (each & (reached.well & (chain.well & (live == reached.count))))
+    let reached = reach_root(slots);
+    let chain = free_chain(&slots, free);
+    let root = root_well(&slots);
+    let each = each_once(limit, &slots, &reached.order, &chain.order);
+    root & (each & (reached.well & (chain.well & (live as usize == reached.order.count))))
 }

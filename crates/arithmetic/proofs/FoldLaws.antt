@@ -1,11 +1,13 @@
 -- Laws of the fold. Bytes are absorbed one after the other, so a run of them may be cut anywhere. Assumes nothing.
-use mathlib.Core.Path.{◌≡◌, refl, ap, ◌∙◌}
+use mathlib.Core.Path.{◌≡◌, refl, sym, ap, ◌∙◌}
 use mathlib.Core.List.{List, [], ◌∷◌, ◌++◌}
-use Prim.Native.Nat.{ℕ, suc, ◌+◌, ◌-◌, ◌/◌, ◌%◌, ◌≤◌, ◌<◌}
-use native.Mathlib.Numerals.{add-one}
+use Prim.Native.Nat.{ℕ, zero, suc, ◌+◌, ◌/◌, ◌%◌, ◌<◌, ◌^◌}
+use native.Mathlib.Nat.{div-div-eq-div-mul, pow-suc}
 use native.Mathlib.Omega.{arith}
-use lib.ListN.{get_or, length, drop, drop_of_length-le}
-use lib.Seq.{drop-cons}
+use Rattle.std.specs.Int.{bytes_low_first}
+use lib.ListN.{get_or, length, take}
+use lib.Seq.{take-suc}
+use native.Mathlib.Numerals.{add-one}
 use Rattle.arithmetic.specs.declared.fold.StateHash.{StateHash}
 use Rattle.arithmetic.specs.Fold.{fnv_byte, fold_bytes, low_bytes, absorbed}
 
@@ -24,20 +26,17 @@ pub absorbed_none : (h : StateHash) → absorbed h [] ≡ h
 unfolding absorbed fold_bytes
 absorbed_none h = refl
 
--- What is left of a slice at place i: its byte, then the rest.
-pub absorbed_from : (h : StateHash) (s : List ℕ) (i : ℕ) → i < length s → absorbed (absorbed h (get_or s i 0 ∷ [])) (drop (i + 1) s) ≡ absorbed h (drop i s)
-absorbed_from h s i l = rw (add-one, drop-cons s i 0 l) (absorbed_in_turn h (get_or s i 0 ∷ []) (drop (suc i) s))
+-- One byte more of a run.
+pub absorbed_more : (h : StateHash) (s : List ℕ) (i : ℕ) → i < length s → absorbed (absorbed h (take i s)) (get_or s i 0 ∷ []) ≡ absorbed h (take (i + 1) s)
+absorbed_more h s i l = rw (add-one, take-suc s i 0 l) (absorbed_in_turn h (take i s) (get_or s i 0 ∷ []))
 
-pub absorbed_past : (h : StateHash) (s : List ℕ) (i : ℕ) → length s ≤ i → absorbed h (drop i s) ≡ h
-absorbed_past h s i l = ap (absorbed h) (drop_of_length-le s {i = i} l) ∙ absorbed_none h
-
--- What is left of a number with n bytes to go: its lowest byte, then the rest.
-pub absorbed_low_byte : (h : StateHash) (y n i : ℕ) → i < n → absorbed (absorbed h ((y % 256) ∷ [])) (low_bytes (n - (i + 1)) (y / 256)) ≡ absorbed h (low_bytes (n - i) y)
+low_bytes_from : (i k x : ℕ) → bytes_low_first i k x ≡ low_bytes k (x / 256 ^ i)
 unfolding low_bytes
-absorbed_low_byte h y n i l =
-    let e : n - i ≡ suc (n - (i + 1)) = omega arith in
-    rw e (absorbed_in_turn h ((y % 256) ∷ []) (low_bytes (n - (i + 1)) (y / 256)))
+low_bytes_from i zero x = refl
+low_bytes_from zero (suc k) x = let e : x / 1 ≡ x = omega arith in rw e (ap (λ (s : List ℕ). (x % 256) ∷ s) (low_bytes_from 1 k x))
+low_bytes_from (suc i) (suc k) x =
+    ap (λ (s : List ℕ). (x / 256 ^ suc i % 256) ∷ s) (low_bytes_from (suc (suc i)) k x ∙ ap (low_bytes k) (ap (λ (p : ℕ). x / p) (pow-suc 256 (suc i)) ∙ sym (div-div-eq-div-mul x (256 ^ suc i) 256)))
 
-pub absorbed_no_bytes : (h : StateHash) (y n i : ℕ) → n ≤ i → absorbed h (low_bytes (n - i) y) ≡ h
-unfolding low_bytes
-absorbed_no_bytes h y n i l = let e : n - i ≡ 0 = omega arith in rw e (absorbed_none h)
+-- The library's bytes of a number, lowest first.
+pub le_bytes_are_low_bytes : (k x : ℕ) → bytes_low_first 0 k x ≡ low_bytes k x
+le_bytes_are_low_bytes k x = low_bytes_from 0 k x ∙ ap (low_bytes k) (omega arith)

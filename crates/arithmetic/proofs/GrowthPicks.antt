@@ -7,8 +7,8 @@ use native.Mathlib.Decide.{dec_lt, ℕ_discrete}
 use native.Mathlib.Omega.{arith}
 use borrow.Author.Tests.{lt-ltb, le-ltb}
 use lib.IntN.{ℤ, pos, ◌+ℤ◌, +ℤ_idr}
-use lib.ListN.{get_or, length, set, length-set}
-use lib.Seq.{get_or-set_same, get_or-set_other}
+use lib.ListN.{get_or, length, set, length-set, take}
+use lib.Seq.{get_or-set_same, get_or-set_other, get_or-take, length-take-le}
 use Rattle.arithmetic.specs.Growth.{rank}
 use Rattle.arithmetic.specs.Support.Steps.{FirstLargest, unit_at, with_unit}
 use Rattle.arithmetic.proofs.GrowthRanks.{bit, bit_yes, bit_no, same_test_same_bit, ranks_differ, first_largest_has_rank}
@@ -24,6 +24,18 @@ unit_below_count keys n s k h = simp (lt-ltb k n h)
 pub no_unit_past_count : (keys : List ℕ) (n s k : ℕ) → n ≤ k → unit_at keys n s k ≡ 0
 unfolding unit_at
 no_unit_past_count keys n s k h = simp (le-ltb k n h)
+
+-- The first of the largest among the front of the keys.
+pub first_largest_of_front : (keys : List ℕ) (n b : ℕ) → n ≤ length keys → FirstLargest (take n keys) (length (take n keys)) b → FirstLargest keys n b
+first_largest_of_front keys n b h f =
+    let e : length (take n keys) ≡ n = length-take-le n keys h in
+    let q : b < n = omega (arith, f.inside) in
+    let at = get_or-take n keys b 0 q in
+    record {
+      inside = q;
+      largest = λ k l. omega (arith, at, get_or-take n keys k 0 l, f.largest k (omega arith));
+      first = λ k l. omega (arith, at, get_or-take n keys k 0 (omega arith), f.first k l);
+    }
 
 -- After i picks, with the shares so far and the keys that are left.
 pub record Picked (n : ℕ) (shares : List ℤ) (keys : List ℕ) (out : List ℤ) (left : List ℕ) (i : ℕ) : Type 0 where

@@ -3,13 +3,14 @@
 use mathlib.Core.Path.{◌≡◌, refl, sym, ◌∙◌, ap, ap₂}
 use mathlib.Core.Bool.{Bool, true, false, cond}
 use mathlib.Core.List.{List}
-use Prim.Native.Nat.{ℕ, ◌+◌, ◌-◌, ◌≤◌, ◌<◌, ◌^◌, min}
+use Prim.Native.Nat.{ℕ, ◌+◌, ◌-◌, ◌*◌, ◌/◌, ◌%◌, ◌≤◌, ◌<◌, ◌^◌, min}
 use native.Mathlib.Decide.{dec_lt, ℕ_discrete}
 use native.Mathlib.Omega.{arith}
 use borrow.Author.Tests.{lt-ltb, le-ltb, eq-eqb, ne_eqb, leb-true, leb-false}
 use lib.Dec.{ltb}
 use lib.IntN.{ℤ, pos, negsuc, nat_abs, ◌+ℤ◌}
-use lib.ListN.{get_or}
+use lib.ListN.{get_or, take}
+use lib.Seq.{get_or-take}
 use lib.Signed.{le_z}
 use Rattle.arithmetic.specs.Growth.{table, comes_before, rank, grow_sum, whole_share, remainder, missing, share_with_unit, share, plan_growth}
 use Rattle.arithmetic.specs.Support.Steps.{PartsOf, RoomForUnits, with_unit}
@@ -53,6 +54,30 @@ module _ (l : ℕ) (grows : List ℕ) (n k : ℕ) where
   pub no_share_of_no_grow : grow_sum grows n ≡ 0 → share l grows n k ≡ 0
   unfolding share
   no_share_of_no_grow e = rw e (either_is_none (ltb 0 l))
+
+-- The first n places of the grows are all that counts of them.
+module _ (l : ℕ) (grows : List ℕ) (n : ℕ) where
+  pub grow_sum_of_front : grow_sum (take n grows) n ≡ grow_sum grows n
+  unfolding grow_sum
+  grow_sum_of_front = equal_summands_equal_sums _ _ n (λ k h. get_or-take n grows k 0 h)
+
+  share_of_front : (k : ℕ) → k < n → whole_share l (take n grows) n k ≡ whole_share l grows n k
+  unfolding whole_share
+  share_of_front k h = ap₂ (λ (g t : ℕ). l * g / t) (get_or-take n grows k 0 h) grow_sum_of_front
+
+  remainder_of_front : (k : ℕ) → k < n → remainder l (take n grows) n k ≡ remainder l grows n k
+  unfolding remainder
+  remainder_of_front k h = ap₂ (λ (g t : ℕ). l * g % t) (get_or-take n grows k 0 h) grow_sum_of_front
+
+  pub parts_of_front : {shares : List ℤ} {keys : List ℕ} {given : ℕ} → PartsOf l (take n grows) n shares keys given → PartsOf l grows n shares keys given
+  parts_of_front p =
+      record {
+        shares_are = λ k h. p.shares_are k h ∙ ap pos (share_of_front k h);
+        none_past = p.none_past;
+        keys_are = λ k h. p.keys_are k h ∙ ap (λ (r : ℕ). r + 1) (remainder_of_front k h);
+        given_is = p.given_is ∙ equal_summands_equal_sums _ _ n share_of_front;
+        given_fits = p.given_fits;
+      }
 
 pub plan_of_no_leftover : (l : ℤ) (grows : List ℕ) (count : ℕ) → le_z l (pos 0) ≡ true → table 128 (λ (k : ℕ). pos 0) ≡ plan_growth l grows count
 unfolding plan_growth

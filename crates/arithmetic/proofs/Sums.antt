@@ -6,9 +6,11 @@ use native.Mathlib.Nat.{le_of_suc-le-suc, not-suc-le-zero, add-mul, add-zero, le
 use native.Mathlib.Numerals.{add-one}
 use native.Mathlib.Decide.{dec_lt}
 use native.Mathlib.Omega.{arith}
-use lib.ListN.{get_or, length, set, replicate}
-use lib.Seq.{get_or-set_same, get_or-set_other, ext_get_or}
+use lib.ListN.{get_or, length, set, replicate, take}
+use lib.Seq.{get_or-set_same, get_or-set_other, ext_get_or, take-length}
 use borrow.Author.Count.{below_more}
+use Rattle.std.specs.Prelude.{sum}
+use Rattle.std.proofs.lemmas.List.Sums.{fold_more}
 use Rattle.arithmetic.specs.Growth.{sum_to, table}
 
 pub sum_of_none : (f : ℕ → ℕ) → sum_to f 0 ≡ 0
@@ -75,6 +77,17 @@ more_summands_larger_sum f m n h =
 pub summand_at_most_sum : (f : ℕ → ℕ) (n k : ℕ) → k < n → f k ≤ sum_to f n
 summand_at_most_sum f n k h =
     omega (arith, sum_of_one_more f k, more_summands_larger_sum f (k + 1) n (omega arith))
+
+sum_of_front : (xs : List ℕ) (n : ℕ) → n ≤ length xs → sum (take n xs) ≡ sum_to (λ k. get_or xs k 0) n
+unfolding sum_to
+sum_of_front xs zero h = refl
+sum_of_front xs (suc n) h =
+    ap (λ (m : ℕ). sum (take m xs)) (sym (add-one n)) ∙ fold_more (λ a x. a + x) 0 xs n 0 (omega arith)
+    ∙ ap (λ (t : ℕ). t + get_or xs n 0) (sum_of_front xs n (omega arith))
+
+-- The sum of a list as the sum over its places.
+pub sum_of_places : (xs : List ℕ) → sum xs ≡ sum_to (λ k. get_or xs k 0) (length xs)
+sum_of_places xs = ap sum (sym (take-length xs)) ∙ sum_of_front xs (length xs) (le_refl (length xs))
 
 pub table_length : {X : Type 0} (n : ℕ) (f : ℕ → X) → length (table n f) ≡ n
 unfolding table

@@ -1,5 +1,7 @@
 -- Tests of numbers and of lists, and lists of numbers: what every crate above speaks in. A choice by a test is the kit's `cond`.
-use Rattle.std.specs.Prelude.{ℕ, zero, suc, ◌+◌, Bool, true, false, cond, ◌&&◌, List, [], ◌∷◌, ◌++◌, eqb, leb, ℤ, pos, negsuc, length, drop}
+use Rattle.std.specs.Prelude.{ℕ, zero, suc, ◌+◌, Bool, false, cond, ◌&&◌, List, [], ◌∷◌, ◌++◌, eqb, leb, ℤ, pos, negsuc, length, drop}
+-- A test holds of all.
+pub use Rattle.std.specs.List.{list_all as all}
 
 -- Two numbers are equal.
 unfoldable pub same : ℕ → ℕ → Bool
@@ -27,16 +29,6 @@ final_or d (i ∷ is) = final_or i is
 abbrev pub from_to : ℕ → ℕ → List ℕ
 from_to i zero = []
 from_to i (suc n) = i ∷ from_to (suc i) n
-
--- A test holds of all.
-abbrev pub all : {A : Type 0} → (A → Bool) → List A → Bool
-all p [] = true
-all p (x ∷ xs) = p x && all p xs
-
--- What may be missing.
-pub data Maybe (A : Type 0) : Type 0 where
-  nothing : Maybe A
-  just : A → Maybe A
 
 -- A list written over the front of an array: places past the count keep what they held.
 abbrev pub over : {A : Type 0} → List A → List A → List A

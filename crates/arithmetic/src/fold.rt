@@ -1,6 +1,8 @@
 // The check sum: FNV-1a, 64 bits. A state goes in by value, and the state after some bytes comes out.
 ghost use Rattle.std.specs.Prelude.{◌≡◌, [], ◌∷◌};
-ghost use Rattle.arithmetic.specs.Fold.{fnv_byte, low_bytes, empty_hash, absorbed};
+ghost use Rattle.arithmetic.specs.Fold.{low_bytes, empty_hash, absorbed};
+
+const PRIME: u64 = 0x100000001b3;
 
 // The state of a check sum.
 #[derive(Clone, Copy)]
@@ -19,11 +21,12 @@ impl StateHash {
     }
 
     // The state after one byte more.
+    #[tactic(auto, unfolding(crate::specs::Fold::absorbed, crate::specs::Fold::fold_bytes, crate::specs::Fold::fnv_byte))]
     pub fn absorb_byte(self, b: u8) -> StateHash
         ensures { result ≡ absorbed self (b ∷ []) }
     {
         StateHash {
-            state: fold_byte(self.state, b),
+            state: (self.state ^ u64::from(b)).wrapping_mul(PRIME),
         }
     }
 
@@ -32,37 +35,25 @@ impl StateHash {
         ensures { result ≡ absorbed self s.now }
     {
         let mut hash = self;
-        for i in 0..s.len() {
-            hash = hash.absorb_byte(s[i]);
-        }
-        hash
-    }
-
-    // The state after the n lowest bytes of x, lowest first.
-    fn absorb_low(self, x: u64, n: usize) -> StateHash
-        ensures { result ≡ absorbed self (low_bytes n x) }
-    {
-        let mut hash = self;
-        let mut left = x;
-        for i in 0..n {
-            hash = hash.absorb_byte((left % 256) as u8);
-            left = left / 256;
+        for b in s {
+            hash = hash.absorb_byte(*b);
         }
         hash
     }
 
     // The state after the four bytes of x, lowest first.
+    // Kept: a method for each width, of a line, since no trait of the library gives the bytes of a number of any width.
     pub fn absorb_u32(self, x: u32) -> StateHash
         ensures { result ≡ absorbed self (low_bytes 4 x) }
     {
-        self.absorb_low(x as u64, 4)
+        self.absorb_bytes(&x.to_le_bytes())
     }
 
     // The state after the eight bytes of x, lowest first.
     pub fn absorb_u64(self, x: u64) -> StateHash
         ensures { result ≡ absorbed self (low_bytes 8 x) }
     {
-        self.absorb_low(x, 8)
+        self.absorb_bytes(&x.to_le_bytes())
     }
 
     // The check sum of what was absorbed.
@@ -71,18 +62,4 @@ impl StateHash {
     {
         self.state
     }
-}
-
-// 2^32: half of the 64 bits.
-const HALF: u64 = 4294967296;
-
-// Xor, then times the prime 2^40 + 435 modulo 2^64, in halves of 32 bits, so that no product passes 64 bits.
-fn fold_byte(h: u64, b: u8) -> u64
-    ensures { result ≡ fnv_byte h b }
-{
-    let x = h ^ b as u64;
-    let high = x / HALF;
-    let low = x % HALF;
-    let p = low * 435;
-    (high * 435 + low * 256 + p / HALF) % HALF * HALF + p % HALF
 }

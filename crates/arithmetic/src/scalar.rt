@@ -1,54 +1,30 @@
-// Raw numbers, 65536 to a pixel: sums that stop at the ends of an i64, products, halves and comparisons.
+// Raw numbers, 65536 to a pixel: sums that stop at the ends of an i64, products, halves and comparisons. Each is the library's method, under
+// the contract that says what document 01 says of it.
 ghost use Rattle.std.specs.Prelude.{◌≡◌};
 ghost use Rattle.arithmetic.specs.Scalar.{add_sat, sub_sat, gap_times, half_of, from_int, max_of, incremented, unsigned_of};
 
-// The two ends of an i64.
-const LEAST: i64 = -9223372036854775808;
-
-const GREATEST: i64 = 9223372036854775807;
-
-// The sum, stopped at both ends. Each test moves its end by b, so that nothing overflows on the way.
+// The sum, stopped at both ends.
+#[tactic(auto, unfolding(crate::specs::Scalar::add_sat, crate::specs::Scalar::stop))]
 pub fn saturating_add(a: i64, b: i64) -> i64
     ensures { result ≡ add_sat a b }
 {
-    if 0 < b {
-        if GREATEST - b < a {
-            return GREATEST;
-        }
-    } else {
-        if a < LEAST - b {
-            return LEAST;
-        }
-    }
-    a + b
+    a.saturating_add(b)
 }
 
 // The difference, stopped at both ends.
+#[tactic(auto, unfolding(crate::specs::Scalar::sub_sat, crate::specs::Scalar::stop))]
 pub fn saturating_sub(a: i64, b: i64) -> i64
     ensures { result ≡ sub_sat a b }
 {
-    if 0 < b {
-        if a < LEAST + b { LEAST } else { a - b }
-    } else {
-        if GREATEST + b < a { GREATEST } else { a - b }
-    }
+    a.saturating_sub(b)
 }
 
 // A gap taken count times, stopped at both ends.
+#[tactic(auto, unfolding(crate::specs::Scalar::gap_times, crate::specs::Scalar::stop))]
 pub fn gap_times(gap: i64, count: u32) -> i64
     ensures { result ≡ gap_times gap count }
 {
-    if count == 0 {
-        return 0;
-    }
-    let n = count as i64;
-    if GREATEST / n < gap {
-        return GREATEST;
-    }
-    if gap < LEAST / n {
-        return LEAST;
-    }
-    gap * n
+    gap.saturating_mul(i64::from(count))
 }
 
 // Half, rounded down.
@@ -62,30 +38,28 @@ pub fn half(a: i64) -> i64
 pub fn from_int(x: i32) -> i64
     ensures { result ≡ from_int x }
 {
-    x as i64 * 65536
+    i64::from(x) * 65536
 }
 
 // The larger of two numbers.
+#[tactic(auto, unfolding(crate::specs::Scalar::max_of))]
 pub fn max(a: i64, b: i64) -> i64
     ensures { result ≡ max_of a b }
 {
-    if a > b { a } else { b }
+    a.max(b)
 }
 
 // One more, staying at the largest u64.
 pub fn increment(x: u64) -> u64
     ensures { result ≡ incremented x }
 {
-    if x < 18446744073709551615 { x + 1 } else { x }
+    x.saturating_add(1)
 }
 
 // The 32 bits of a signed number, read as a number without a sign.
+#[tactic(auto, unfolding(crate::specs::Scalar::unsigned_of))]
 pub fn cast_unsigned(x: i32) -> u32
     ensures { result ≡ unsigned_of x }
 {
-    if 0 <= x {
-        x as u32
-    } else {
-        (x as i64 + 4294967296) as u32
-    }
+    x.cast_unsigned()
 }

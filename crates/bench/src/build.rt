@@ -1,182 +1,127 @@
 // Trees grown by calls, and what some kinds of call need first.
-use crate::shapes::id;
-use crate::{kinds, shapes};
+use crate::kinds::Kind;
+use crate::runs::kept;
+use crate::shapes;
+use crate::shapes::{Shape, id};
 use desk::UiEvent;
 use tree::{Ui, UiLimits, Viewport};
 
 // The viewport, and one of another height.
 pub(crate) fn view(usual: bool) -> Viewport {
-    if usual {
-        return Viewport {
-            width: 83886080,
-            height: 47185920,
-        };
-    }
     Viewport {
         width: 83886080,
-        height: 52428800,
+        height: if usual { 47185920 } else { 52428800 },
     }
 }
 
-fn handled(u: Ui, event: UiEvent) -> Ui {
-    let c = desk::handle(u, event);
-    c.tree
+fn handle(u: &mut Ui, event: UiEvent) {
+    let _ = kept(desk::handle(*u, event), u);
 }
 
-fn grown(shape: u32) -> Ui {
+fn grown(shape: Shape) -> Ui {
     let made = Ui::new(UiLimits { nodes: 128 });
     let mut u = made.tree;
-    for k in 1..shapes::count(shape) {
-        let r = u.insert(id(shapes::parent(shape, k)));
-        u = r.tree;
+    for k in 1..shape.count() {
+        let _ = kept(u.insert(id(shape.parent(k))), &mut u);
     }
     u
 }
 
-fn styled(u: Ui, shape: u32) -> Ui {
-    let mut out = u;
-    for k in 0..shapes::count(shape) {
-        let c = out.set_style(id(k), shapes::style(shape, k));
-        out = c.tree;
-    }
-    out
+fn pool(u: &mut Ui) {
+    let _ = kept(u.set_patch_pool(shapes::patches(), shapes::POOL), u);
 }
 
-fn pooled(u: Ui) -> Ui {
-    let c = u.set_patch_pool(shapes::patches(), shapes::POOL);
-    c.tree
+fn solve(u: &mut Ui) {
+    let _ = kept(u.solve(view(true)), u);
 }
 
-fn tabled(u: Ui) -> Ui {
-    let mut out = pooled(u);
-    for k in 0..128 {
-        let c = out.set_state_table(id(k), shapes::table(k));
-        out = c.tree;
-    }
-    out
-}
-
-fn solved(u: Ui) -> Ui {
-    let c = u.solve(view(true));
-    c.tree
-}
-
-fn clicked(u: Ui) -> Ui {
-    handled(
-        handled(u, UiEvent::PointerPressed),
-        UiEvent::PointerReleased,
-    )
+fn click(u: &mut Ui) {
+    handle(u, UiEvent::PointerPressed);
+    handle(u, UiEvent::PointerReleased);
 }
 
 // Eight fields, for nodes 4 to 11.
-fn with_fields(u: Ui) -> Ui {
-    let mut out = u;
+fn make_fields(u: &mut Ui) {
     for k in 4..12 {
-        let c = out.make_field(id(k));
-        out = c.tree;
+        let _ = kept(u.make_field(id(k)), u);
     }
-    out
 }
 
 // A draught typed into the field in focus.
-fn typed(u: Ui, digit: u32) -> Ui {
-    let a = handled(u, UiEvent::TextEntered { ch: 49 + digit % 9 });
-    let b = handled(a, UiEvent::TextEntered { ch: 46 });
-    handled(b, UiEvent::TextEntered { ch: 53 })
+fn draught(u: &mut Ui, digit: u32) {
+    for ch in [49 + digit % 9, 46, 53] {
+        handle(u, UiEvent::TextEntered { ch });
+    }
 }
 
 // Where the form's fields stand, six in the first panel and two in the second.
-fn field_x(f: u32) -> i32 {
-    match f {
-        0 | 6 => 20,
-        1 | 7 => 130,
-        2 => 240,
-        3 => 350,
-        4 => 460,
-        _ => 570,
-    }
-}
-
-fn field_y(f: u32) -> i32 {
-    if f < 6 { 50 } else { 150 }
-}
+const FIELDS: [(i32, i32); 8] = [
+    (20, 50),
+    (130, 50),
+    (240, 50),
+    (350, 50),
+    (460, 50),
+    (570, 50),
+    (20, 150),
+    (130, 150),
+];
 
 // The form's fields, each clicked and typed into.
-fn filled(u: Ui) -> Ui {
-    let mut out = with_fields(u);
-    for f in 0..8 {
-        let over = handled(
-            out,
-            UiEvent::PointerMoved {
-                x: field_x(f),
-                y: field_y(f),
-            },
-        );
-        out = typed(clicked(over), f);
+fn fill(u: &mut Ui) {
+    make_fields(u);
+    for (f, (x, y)) in (0u32..8).zip(FIELDS) {
+        handle(u, UiEvent::PointerMoved { x, y });
+        click(u);
+        draught(u, f);
     }
-    out
 }
 
 // The tree of a shape: laid out, with the pointer over its leaf, which has been clicked.
-pub(crate) fn tree(shape: u32) -> Ui {
-    let mut u = styled(grown(shape), shape);
-    if shape == shapes::EIGHTS {
-        u = tabled(u);
+pub(crate) fn tree(shape: Shape) -> Ui {
+    let mut u = grown(shape);
+    for k in 0..shape.count() {
+        let _ = kept(u.set_style(id(k), shape.style(k)), &mut u);
     }
-    u = solved(u);
-    if shape == shapes::FORM {
-        u = filled(u);
+    if let Shape::Eights = shape {
+        pool(&mut u);
+        for k in 0..128 {
+            let _ = kept(u.set_state_table(id(k), shapes::table(k)), &mut u);
+        }
     }
-    solved(clicked(handled(u, shapes::moved(shape, true))))
-}
-
-// A field for the leaf in focus; the form's has one, with a text.
-fn with_field(u: Ui, shape: u32) -> Ui {
-    if shape == shapes::FORM {
-        return u;
+    solve(&mut u);
+    if let Shape::Form = shape {
+        fill(&mut u);
     }
-    let c = u.make_field(id(shapes::focus(shape)));
-    typed(c.tree, 6)
-}
-
-// Room for one more leaf.
-fn with_room(u: Ui, shape: u32) -> Ui {
-    if shapes::count(shape) < 128 {
-        return u;
-    }
-    let c = u.remove(id(127));
-    c.tree
-}
-
-fn with_pool(u: Ui, shape: u32) -> Ui {
-    if shape == shapes::EIGHTS {
-        return u;
-    }
-    pooled(u)
-}
-
-// No output waits; the form's clicks left nine.
-fn without_outputs(u: Ui) -> Ui {
-    let mut out = u;
-    for _k in 0u32..9 {
-        let t = desk::next_output(out);
-        out = t.tree;
-    }
-    out
+    handle(&mut u, shape.moved(true));
+    click(&mut u);
+    solve(&mut u);
+    u
 }
 
 // The tree made ready for a kind of call.
-pub(crate) fn ready(u: Ui, shape: u32, kind: u32) -> Ui {
-    match kind {
-        kinds::INSERT_REMOVE => with_room(u, shape),
-        kinds::SET_STATE_TABLE => with_pool(u, shape),
-        kinds::NO_FIELD => with_fields(u),
-        kinds::OUTPUT => without_outputs(u),
-        kinds::MAKE_FIELD => with_field(u, shape),
-        kinds::FIELD_TEXT => with_field(u, shape),
-        kinds::FIELD_CURSOR => with_field(u, shape),
-        kinds::METRES => with_field(u, shape),
-        kinds::KEY => with_field(u, shape),
-        _ => u,
+pub(crate) fn ready(u: &mut Ui, shape: Shape, kind: Kind) {
+    match (kind, shape) {
+        // Room for one more leaf.
+        (Kind::InsertRemove, Shape::Flat | Shape::Chain | Shape::Eights) => {
+            let _ = kept(u.remove(id(127)), u);
+        }
+        (Kind::SetStateTable, Shape::Eights) => {}
+        (Kind::SetStateTable, _) => pool(u),
+        (Kind::NoField, _) => make_fields(u),
+        // No output waits; the form's clicks left nine.
+        (Kind::Output, _) => {
+            for _ in 0..9 {
+                let _ = kept(desk::next_output(*u), u);
+            }
+        }
+        // A field for the leaf in focus; the form's has one, with a text.
+        (
+            Kind::MakeField | Kind::FieldText | Kind::FieldCursor | Kind::Metres | Kind::Key,
+            Shape::Root | Shape::Flat | Shape::Chain | Shape::Eights | Shape::Panel,
+        ) => {
+            let _ = kept(u.make_field(shape.focus()), u);
+            draught(u, 6);
+        }
+        _ => {}
     }
 }

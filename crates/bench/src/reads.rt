@@ -1,153 +1,87 @@
 // The kinds of call that read, each on two nodes in turn: the leaf in focus and the root.
-use crate::mix::mix;
-use crate::shapes::id;
-use crate::{kinds, mix, shapes};
+use crate::kinds::Kind;
+use crate::mix;
+use crate::mix::{mix, natural, neighbour, refused};
+use crate::shapes::Shape;
 use arithmetic::fold::StateHash;
 use field::NodeId;
+use std::array;
 use text::lines;
 use tree::Ui;
 
-fn node_of(i: u32, leaf: u32) -> NodeId {
-    if i % 2 == 0 {
-        return id(leaf);
-    }
-    id(0)
-}
-
-fn field_text(u: Ui, leaf: u32, n: u32, acc: u64) -> u64 {
+// n turns, in each of which a call on one of the two nodes is mixed into what the last one left.
+// Kept: `n` and `acc` apart: each call of the benchmark has other trees and nodes beside them, and C passes `n` alone.
+fn turns<F: FnMut(u64, NodeId) -> u64>(shape: Shape, n: u32, acc: u64, mut turn: F) -> u64
+    requires { F.IsAlwaysCallable turn }
+{
+    let nodes = [shape.focus(), Ui::root()];
     let mut all = acc;
     for i in 0..n {
-        let t = u.field_text(node_of(i, leaf));
-        let a = t.answer;
-        all = mix(mix(all, mix::length(a)), mix::wide(t.bytes[0]));
-    }
-    all
-}
-
-fn field_cursor(u: Ui, leaf: u32, n: u32, acc: u64) -> u64 {
-    let mut all = acc;
-    for i in 0..n {
-        all = mix(all, mix::caret(u.field_cursor(node_of(i, leaf))));
-    }
-    all
-}
-
-fn metres(u: Ui, leaf: u32, n: u32, acc: u64) -> u64 {
-    let mut all = acc;
-    for i in 0..n {
-        all = mix(all, mix::centimetres(desk::metres(u, node_of(i, leaf))));
-    }
-    all
-}
-
-fn rect(u: Ui, leaf: u32, n: u32, acc: u64) -> u64 {
-    let mut all = acc;
-    for i in 0..n {
-        all = mix::rect(all, u.rect(node_of(i, leaf)));
-    }
-    all
-}
-
-fn is_live(u: Ui, leaf: u32, n: u32, acc: u64) -> u64 {
-    let mut all = acc;
-    for i in 0..n {
-        all = mix(all, mix::liveness(u.is_live(node_of(i, leaf))));
-    }
-    all
-}
-
-fn first_child(u: Ui, leaf: u32, n: u32, acc: u64) -> u64 {
-    let mut all = acc;
-    for i in 0..n {
-        all = mix(all, mix::neighbour(u.first_child(node_of(i, leaf))));
-    }
-    all
-}
-
-fn next_sibling(u: Ui, leaf: u32, n: u32, acc: u64) -> u64 {
-    let mut all = acc;
-    for i in 0..n {
-        all = mix(all, mix::neighbour(u.next_sibling(node_of(i, leaf))));
-    }
-    all
-}
-
-// Each fold starts where the last one ended.
-fn absorb(u: Ui, n: u32, acc: u64) -> u64 {
-    let mut all = acc;
-    for _i in 0..n {
-        all = mix::state(desk::absorb(u, StateHash { state: all }));
+        all = turn(all, nodes[i as usize % 2]);
     }
     all
 }
 
 // A text of 26 bytes, from another start each time. No tree is read.
-fn measure(s: &[u8], n: u32, acc: u64) -> u64 {
-    let mut all = acc;
-    for i in 0..n {
-        let from = (i % 2) as usize;
-        if from < s.len() {
-            all = mix(all, mix::width(text::measure(&s[from..])));
-        }
-    }
-    all
+fn measure(n: u32, acc: u64) -> u64 {
+    let s = b"Draught 7.40, ramp 3.5, ok";
+    (0..n).fold(acc, |acc, i| {
+        let width = text::measure(&s[i as usize % 2..]);
+        mix(acc, width.map_or_else(refused, natural))
+    })
 }
 
 // A mooring order of 1,024 bytes: the same 128, eight times.
 fn order() -> [u8; 1024] {
     let part =
         b"Berth 4, starboard side to. Two head lines and two stern lines, then springs. Draught 7.40 m, ramp at 3.5 m. Stand by at 16:30. ";
-    let mut all = [0u8; 1024];
-    for i in 0..1024 {
-        all[i] = part[i % 128];
-    }
-    all
+    array::from_fn(|i| part[i % 128])
 }
 
-fn broken(s: &[u8], width: u32, starts: &mut [u32; 128]) -> u64 {
-    mix::line_count(lines::break_lines(s, width, starts))
-}
-
-fn wide(x: u32) -> u64 {
-    x as u64
-}
-
-// The whole buffer.
-fn places(starts: [u32; 128], acc: u64) -> u64 {
-    let mut all = acc;
-    for k in 0..128 {
-        all = mix(all, wide(starts[k]));
-    }
-    all
-}
-
-// The order, from another start each time. No tree is read.
+// The order, from another start each time, and the whole buffer at the end. No tree is read.
 fn break_lines(width: u32, n: u32, acc: u64) -> u64 {
     let s = order();
     let mut starts = [0u32; 128];
     let mut all = acc;
     for i in 0..n {
-        let from = (i % 2) as usize;
-        all = mix(all, broken(&s[from..], width, &mut starts));
+        let lines = lines::break_lines(&s[i as usize % 2..], width, &mut starts);
+        all = mix(all, lines.map_or_else(refused, u64::from));
     }
-    places(starts, all)
+    starts
+        .iter()
+        .fold(all, |acc, start| mix(acc, u64::from(*start)))
 }
 
 // The answers of n calls of a kind, mixed.
-pub(crate) fn read(u: Ui, shape: u32, kind: u32, n: u32, acc: u64) -> u64 {
-    let leaf = shapes::focus(shape);
+pub(crate) fn read(u: &Ui, shape: Shape, kind: Kind, n: u32, acc: u64) -> u64 {
     match kind {
-        kinds::FIELD_TEXT => field_text(u, leaf, n, acc),
-        kinds::FIELD_CURSOR => field_cursor(u, leaf, n, acc),
-        kinds::METRES => metres(u, leaf, n, acc),
-        kinds::RECT => rect(u, leaf, n, acc),
-        kinds::IS_LIVE => is_live(u, leaf, n, acc),
-        kinds::FIRST_CHILD => first_child(u, leaf, n, acc),
-        kinds::NEXT_SIBLING => next_sibling(u, leaf, n, acc),
-        kinds::ABSORB => absorb(u, n, acc),
-        kinds::MEASURE => measure(b"Draught 7.40, ramp 3.5, ok", n, acc),
-        kinds::NARROW_LINES => break_lines(120, n, acc),
-        kinds::WIDE_LINES => break_lines(400, n, acc),
+        Kind::FieldText => turns(shape, n, acc, |acc, d| {
+            let (length, bytes) = mix::text(u.field_text(d));
+            mix(mix(acc, length), u64::from(bytes[0]))
+        }),
+        Kind::FieldCursor => turns(shape, n, acc, |acc, d| {
+            mix(acc, u.field_cursor(d).map_or_else(refused, u64::from))
+        }),
+        Kind::Metres => turns(shape, n, acc, |acc, d| {
+            mix(acc, desk::metres(*u, d).map_or_else(refused, u64::from))
+        }),
+        Kind::Rect => turns(shape, n, acc, |acc, d| mix::rect(acc, u.rect(d))),
+        Kind::IsLive => turns(shape, n, acc, |acc, d| {
+            mix(acc, u.is_live(d).map_or_else(refused, u64::from))
+        }),
+        Kind::FirstChild => turns(shape, n, acc, |acc, d| {
+            mix(acc, u.first_child(d).map_or_else(refused, neighbour))
+        }),
+        Kind::NextSibling => turns(shape, n, acc, |acc, d| {
+            mix(acc, u.next_sibling(d).map_or_else(refused, neighbour))
+        }),
+        // Each fold starts where the last one ended.
+        Kind::Absorb => turns(shape, n, acc, |acc, _| {
+            desk::absorb(*u, StateHash { state: acc }).unwrap_or_else(refused)
+        }),
+        Kind::Measure => measure(n, acc),
+        Kind::NarrowLines => break_lines(120, n, acc),
+        Kind::WideLines => break_lines(400, n, acc),
         _ => acc,
     }
 }

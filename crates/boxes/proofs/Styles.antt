@@ -1,7 +1,7 @@
 pub mod GeometryLaws
-pub mod Raws
-pub mod Pools
+pub mod Equality
 pub mod Rounds
 pub mod WearLaws
 pub mod Keeps
 pub mod Wearings
+pub mod Turns

@@ -1,15 +1,14 @@
 -- Document 01, "The history of demand 3". It is fed the new tree's start and limit and each call with its arguments, and of the answers only the id
 -- that an accepted insert gives. Press, focus and the field of a key are names: a name is made at each accepted insert and used once.
-use Rattle.std.specs.Prelude.{ℕ, ◌+◌, ◌-◌, Bool, true, false, ◌&&◌, ◌||◌, not, cond, List, [], ◌∷◌, ◌++◌, ltb, pos, length, get_or, take, replicate}
+use Rattle.boxes.specs.declared.Pixel.{Pixel}
+use Rattle.std.specs.Prelude.{ℕ, ◌+◌, ◌-◌, Bool, true, false, ◌&&◌, ◌||◌, not, cond, List, [], ◌∷◌, ◌++◌, ltb, pos, length, get_or, take, replicate, None, Option, Some}
 use Rattle.text.specs.Refusal.{Answer, accepted, refused, number_of}
 use Rattle.text.specs.declared.refusal.Refusal.TheVariants.{Missing, Full, Root, Foreign, Long, Fieldless}
 use Rattle.arithmetic.specs.declared.fold.StateHash.{StateHash}
 use Rattle.field.specs.Text.{Text, text, bytes_of, caret_of, typed, keyed}
 use Rattle.field.specs.Metres.{metres_of}
 use Rattle.field.specs.declared.NodeId.{NodeId}
-use Rattle.field.specs.declared.MaybeId.{MaybeId}
-use Rattle.field.specs.declared.MaybeId.TheVariants.{Absent, Present}
-use Rattle.arithmetic.specs.Tests.{same, all, Maybe, nothing, just}
+use Rattle.arithmetic.specs.Tests.{same, all}
 use Rattle.boxes.specs.Styles.{no_patch, no_rect}
 use Rattle.boxes.specs.States.{in_pool}
 use Rattle.arena.specs.Slots.{same_id, nobody}
@@ -21,8 +20,6 @@ use Rattle.boxes.specs.declared.Style.{Style}
 use Rattle.boxes.specs.declared.Rect.{Rect}
 use Rattle.boxes.specs.declared.StatePatch.{StatePatch}
 use Rattle.boxes.specs.declared.Viewport.{Viewport}
-use Rattle.boxes.specs.declared.Pointer.{Pointer}
-use Rattle.boxes.specs.declared.Pointer.TheVariants.{Placed}
 use Rattle.boxes.specs.declared.StartKind.{StartKind}
 use Rattle.boxes.specs.declared.UiEvent.{UiEvent}
 use Rattle.boxes.specs.declared.UiEvent.TheVariants.{PointerMoved, PointerPressed, PointerReleased, TextEntered, Edit}
@@ -58,9 +55,9 @@ pub data Call : Type 0 where
 
 -- The pointer, and the names of the nodes pressed and in focus, dead or not.
 pub record Input : Type 0 where
-  pub pointer : Pointer
-  pub pressed : Maybe ℕ
-  pub focus : Maybe ℕ
+  pub pointer : Option Pixel
+  pub pressed : Option ℕ
+  pub focus : Option ℕ
 
 -- What a pass and wearing go by: the pool, the viewport of the last pass, and whether a pass is due.
 pub record Styling : Type 0 where
@@ -89,7 +86,7 @@ start kind limit' = record {
   tree = node 0 1 (new_info 0) nil nil;
   named = root_id ∷ [];
   styling = record { pool = []; viewport = record { width = pos 0; height = pos 0 }; dirty = true };
-  input = record { pointer = first_pointer kind; pressed = nothing; focus = nothing };
+  input = record { pointer = first_pointer kind; pressed = None; focus = None };
 }
 
 -- The history with some of it changed: definitions touch it through these alone, so that a field more changes them and the start.
@@ -116,13 +113,13 @@ field_count nil = 0
 field_count (node i g x cs sib) = bit (has_field x) + (field_count cs + field_count sib)
 
 -- What reads answer of an id: of a live node what the history has of it.
-abbrev pub of_text : {A : Type 0} → A → (Text → Answer A) → Maybe Text → Answer A
-of_text none read nothing = refused Fieldless none
-of_text none read (just t) = read t
+abbrev pub of_text : {A : Type 0} → A → (Text → Answer A) → Option Text → Answer A
+of_text none read None = refused Fieldless none
+of_text none read (Some t) = read t
 
-abbrev pub of_node : {A : Type 0} → A → (Info → Answer A) → Maybe Info → Answer A
-of_node none read nothing = refused Missing none
-of_node none read (just x) = read x
+abbrev pub of_node : {A : Type 0} → A → (Info → Answer A) → Option Info → Answer A
+of_node none read None = refused Missing none
+of_node none read (Some x) = read x
 
 abbrev pub padded : Text → Shown
 padded t = record { bytes = bytes_of t ++ replicate (64 - length (bytes_of t)) 0; len = length (bytes_of t) }
@@ -143,19 +140,19 @@ unfoldable pub live_said : History → NodeId → Answer Bool
 live_said h d = accepted (has h d)
 
 -- A dead node has no first child; of its next sibling is asked in vain.
-unfoldable pub first_said : History → NodeId → Answer MaybeId
+unfoldable pub first_said : History → NodeId → Answer (Option NodeId)
 first_said h d = accepted (first_id (kids_of d h.tree))
 
-unfoldable pub next_said : History → NodeId → Answer MaybeId
-next_said h d = cond (has h d) (accepted (next_id d h.tree)) (refused Missing Absent)
+unfoldable pub next_said : History → NodeId → Answer (Option NodeId)
+next_said h d = cond (has h d) (accepted (next_id d h.tree)) (refused Missing None)
 
 -- The refusal number of a call, by document 01's table; 0 where it is accepted. Number 1 never comes.
 abbrev pub unless : Bool → ℕ → ℕ → ℕ
 unless b n m = cond b m n
 
-abbrev pub refusal_of_field : History → Maybe Info → ℕ
-refusal_of_field h nothing = number_of Missing
-refusal_of_field h (just x) = unless (has_field x || ltb (field_count h.tree) 8) (number_of Full) 0
+abbrev pub refusal_of_field : History → Option Info → ℕ
+refusal_of_field h None = number_of Missing
+refusal_of_field h (Some x) = unless (has_field x || ltb (field_count h.tree) 8) (number_of Full) 0
 
 abbrev pub refusal_of_change : History → Change → ℕ
 refusal_of_change h (remove d) = unless (has h d) (number_of Missing) (unless (not (same_id d root_id)) (number_of Root) 0)
@@ -183,8 +180,8 @@ refusal_of h (change c) = refusal_of_change h c
 refusal_of h (ask q) = refusal_of_question h q
 
 -- The name of the node under the pointer, by this tree and these boxes. Press, release and hover all go by it.
-abbrev pub hit_name : History → Maybe ℕ
-hit_name h = under_pointer nothing (λ pixel. hit_f pixel nothing h.tree) h.input.pointer
+abbrev pub hit_name : History → Option ℕ
+hit_name h = under_pointer None (λ pixel. hit_f pixel None h.tree) h.input.pointer
 
 -- The bits of a node follow from the hit, the press and the focus.
 abbrev pub bits_in : History → Info → ℕ
@@ -197,29 +194,29 @@ refresh h =
     with_tree h (map_f (λ i g x. wears pool (bits_in h x) x) h.tree) (h.styling.dirty || any_f (λ i g x. swaps pool (bits_in h x) x) h.tree)
 
 -- The name is the other's.
-abbrev pub same_name : Maybe ℕ → Maybe ℕ → Bool
-same_name nothing m = false
-same_name (just k) nothing = false
-same_name (just k) (just m) = same k m
+abbrev pub same_name : Option ℕ → Option ℕ → Bool
+same_name None m = false
+same_name (Some k) None = false
+same_name (Some k) (Some m) = same k m
 
 -- A key is one edit of the text.
 abbrev pub key_text : Key → Text → Text
 key_text (Char c) t = typed c t
 key_text (Op op) t = keyed op t
 
-abbrev pub map_maybe : (Text → Text) → Maybe Text → Maybe Text
-map_maybe f nothing = nothing
-map_maybe f (just t) = just (f t)
+abbrev pub map_maybe : (Text → Text) → Option Text → Option Text
+map_maybe f None = None
+map_maybe f (Some t) = Some (f t)
 
 abbrev pub typed_into : History → Key → History
 typed_into h key = with_tree h (change_named h.input.focus (λ x. with_field x (map_maybe (key_text key) x.text)) h.tree) h.styling.dirty
 
 -- An event before the bits are refreshed.
 abbrev pub after_event : History → UiEvent → History
-after_event h (PointerMoved x' y') = with_input h (record { pointer = Placed (record { x = x'; y = y' }); pressed = h.input.pressed; focus = h.input.focus })
+after_event h (PointerMoved x' y') = with_input h (record { pointer = Some (record { x = x'; y = y' }); pressed = h.input.pressed; focus = h.input.focus })
 after_event h PointerPressed = with_input h (record { pointer = h.input.pointer; pressed = hit_name h; focus = h.input.focus })
 after_event h PointerReleased =
-    with_input h (record { pointer = h.input.pointer; pressed = nothing; focus = cond (same_name h.input.pressed (hit_name h)) h.input.pressed h.input.focus })
+    with_input h (record { pointer = h.input.pointer; pressed = None; focus = cond (same_name h.input.pressed (hit_name h)) h.input.pressed h.input.focus })
 after_event h (TextEntered ch) = typed_into h (Char ch)
 after_event h (Edit op) = typed_into h (Op op)
 
@@ -229,9 +226,9 @@ grown h parent new =
     let child = node new.index new.generation (new_info (length h.named)) nil nil in
     with_names (with_tree h (set_kids_of parent (app (kids_of parent h.tree) child) h.tree) true) (h.named ++ new ∷ [])
 
-abbrev pub keep_text : Maybe Text → Maybe Text
-keep_text nothing = just (text [] [])
-keep_text (just t) = just t
+abbrev pub keep_text : Option Text → Option Text
+keep_text None = Some (text [] [])
+keep_text (Some t) = Some t
 
 -- What an accepted call makes of the history; `new` is the id that an insertion gave.
 abbrev pub after_change : History → Change → History
@@ -261,6 +258,6 @@ unfoldable pub recorded : History → Call → NodeId → History
 recorded h c new = cond (same (refusal_of h c) 0) (accept h c new) h
 
 -- The stored focus: the id of the node that has the name, dead or not.
-abbrev pub id_named : List NodeId → Maybe ℕ → MaybeId
-id_named named nothing = Absent
-id_named named (just m) = Present (get_or named m nobody)
+abbrev pub id_named : List NodeId → Option ℕ → Option NodeId
+id_named named None = None
+id_named named (Some m) = Some (get_or named m nobody)

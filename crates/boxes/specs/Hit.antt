@@ -1,7 +1,6 @@
 -- Document 01, **Input**: the node under a pixel, from the root down to the last child whose box holds it.
-use Rattle.std.specs.Prelude.{ℕ, zero, suc, Bool, cond, List, [], ◌∷◌}
-use Rattle.field.specs.declared.MaybeId.{MaybeId}
-use Rattle.field.specs.declared.MaybeId.TheVariants.{Absent, Present}
+use Rattle.field.specs.declared.NodeId.{NodeId}
+use Rattle.std.specs.Prelude.{ℕ, zero, suc, Bool, cond, List, [], ◌∷◌, None, Option, Some}
 use Rattle.arena.specs.Slots.{Slots, kids_at, id_at}
 use Rattle.boxes.specs.Styles.{layout_at}
 use Rattle.boxes.specs.Layout.{holds}
@@ -23,7 +22,7 @@ unfoldable pub holds_at : List LayoutSlot → Pixel → ℕ → Bool
 holds_at l pixel i = holds pixel.x pixel.y (layout_at l i).rect
 
 -- The node under the pixel: none where the root's box does not hold it.
-unfoldable pub hit_at : Slots → List LayoutSlot → Pixel → MaybeId
+unfoldable pub hit_at : Slots → List LayoutSlot → Pixel → Option NodeId
 hit_at s l pixel =
     let p : ℕ → Bool = holds_at l pixel in
-    cond (p 0) (Present (id_at s (descend p 128 s 0))) Absent
+    cond (p 0) (Some (id_at s (descend p 128 s 0))) None

@@ -1,8 +1,8 @@
 -- Document 01, the history: what is known of a node, and what the calls make of it, by structural recursion over the nodes alone.
-use Rattle.std.specs.Prelude.{ℕ, Bool, true, false, ◌&&◌, ◌||◌, not, cond, List, [], ◌∷◌}
+use Rattle.std.specs.Prelude.{ℕ, Bool, true, false, ◌&&◌, ◌||◌, not, cond, List, [], ◌∷◌, Option, None, Some}
 use Rattle.field.specs.Text.{Text}
 use Rattle.field.specs.declared.NodeId.{NodeId}
-use Rattle.arithmetic.specs.Tests.{same, Maybe, nothing, just}
+use Rattle.arithmetic.specs.Tests.{same}
 use Rattle.boxes.specs.Styles.{no_patch, no_rect, fresh_style, fresh_table}
 use Rattle.boxes.specs.States.{entry_of, patch_style, touches, bits_of}
 use Rattle.boxes.specs.Layout.{Child, want, place, holds}
@@ -21,10 +21,10 @@ pub record Info : Type 0 where
   pub bits : ℕ
   pub style : Style
   pub rect : Rect
-  pub text : Maybe Text
+  pub text : Option Text
 
 abbrev pub new_info : ℕ → Info
-new_info m = record { name = m; base = fresh_style; table = fresh_table; applied = no_patch; bits = 0; style = fresh_style; rect = no_rect; text = nothing }
+new_info m = record { name = m; base = fresh_style; table = fresh_table; applied = no_patch; bits = 0; style = fresh_style; rect = no_rect; text = None }
 
 -- A node with some of it changed.
 abbrev pub dressed : Info → Style → List ℕ → ℕ → ℕ → Style → Info
@@ -33,7 +33,7 @@ dressed x base' table' applied' bits' style' = record { name = x.name; base = ba
 abbrev pub with_box : Info → Rect → Info
 with_box x r = record { name = x.name; base = x.base; table = x.table; applied = x.applied; bits = x.bits; style = x.style; rect = r; text = x.text }
 
-abbrev pub with_field : Info → Maybe Text → Info
+abbrev pub with_field : Info → Option Text → Info
 with_field x t = record { name = x.name; base = x.base; table = x.table; applied = x.applied; bits = x.bits; style = x.style; rect = x.rect; text = t }
 
 -- The node that has the id, changed.
@@ -41,11 +41,11 @@ abbrev pub change_of : NodeId → (Info → Info) → Forest Info → Forest Inf
 change_of d f t = map_f (λ i g x. cond (has_both d i g) (f x) x) t
 
 -- The node that has the name, changed.
-abbrev pub is_named : Maybe ℕ → Info → Bool
-is_named nothing x = false
-is_named (just m) x = same m x.name
+abbrev pub is_named : Option ℕ → Info → Bool
+is_named None x = false
+is_named (Some m) x = same m x.name
 
-abbrev pub change_named : Maybe ℕ → (Info → Info) → Forest Info → Forest Info
+abbrev pub change_named : Option ℕ → (Info → Info) → Forest Info → Forest Info
 change_named m f t = map_f (λ i g x. cond (is_named m x) (f x) x) t
 
 -- The node wears what its table has for the bits; a pass is due if that swaps patches of which one moves boxes.
@@ -60,7 +60,7 @@ swaps pool bits' x =
     not (same next x.applied) && (touches pool x.applied || touches pool next)
 
 -- A node's bits, from the names of the nodes hovered, pressed and in focus.
-unfoldable pub bits_for : Maybe ℕ → Maybe ℕ → Maybe ℕ → Info → ℕ
+unfoldable pub bits_for : Option ℕ → Option ℕ → Option ℕ → Info → ℕ
 bits_for hover pressed focus x = bits_of (is_named hover x) (is_named pressed x) (is_named focus x)
 
 -- A base style: it shows where no patch is worn.
@@ -86,9 +86,9 @@ place_f (node i g x cs sib) [] = node i g x cs sib
 place_f (node i g x cs sib) (r ∷ rs) = node i g (with_box x r) (place_f cs (place x.style r (wants_f cs))) (place_f sib rs)
 
 -- The name of the node under a pixel: the last of the topmost nodes that holds it, or rather what holds it below that one; else d.
-abbrev pub hit_f : Pixel → Maybe ℕ → Forest Info → Maybe ℕ
+abbrev pub hit_f : Pixel → Option ℕ → Forest Info → Option ℕ
 hit_f pixel d nil = d
-hit_f pixel d (node i g x cs sib) = hit_f pixel (cond (holds pixel.x pixel.y x.rect) (hit_f pixel (just x.name) cs) d) sib
+hit_f pixel d (node i g x cs sib) = hit_f pixel (cond (holds pixel.x pixel.y x.rect) (hit_f pixel (Some x.name) cs) d) sib
 
 -- How many nodes have a field.
 abbrev pub bit : Bool → ℕ
@@ -97,6 +97,6 @@ bit b = cond b 1 0
 abbrev pub has_field : Info → Bool
 has_field x = is_just x.text
   where
-    is_just : Maybe Text → Bool
-    is_just nothing = false
-    is_just (just t) = true
+    is_just : Option Text → Bool
+    is_just None = false
+    is_just (Some t) = true

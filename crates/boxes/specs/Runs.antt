@@ -1,11 +1,9 @@
 -- Runs of calls held against the history: each line is asked of it, and what it says is compared with an answer. SourceRuns.antt has the
 -- answers of the Rust, so that what code and history share, and no theorem between the two can tell, is right as well.
-use Rattle.std.specs.Prelude.{ℕ, suc, ◌-◌, Bool, true, false, ◌&&◌, cond, List, [], ◌∷◌, ◌++◌, map, ℤ, pos, length, take, replicate}
+use Rattle.std.specs.Prelude.{ℕ, suc, ◌-◌, Bool, true, false, ◌&&◌, cond, List, [], ◌∷◌, ◌++◌, map, ℤ, pos, length, take, replicate, None, Option, Some}
 use Rattle.arithmetic.specs.Tests.{same_z}
 use Rattle.text.specs.Refusal.{Answer}
 use Rattle.field.specs.declared.NodeId.{NodeId}
-use Rattle.field.specs.declared.MaybeId.{MaybeId}
-use Rattle.field.specs.declared.MaybeId.TheVariants.{Absent, Present}
 use Rattle.arena.specs.Slots.{nobody}
 use Rattle.boxes.specs.Styles.{no_state_patch}
 use Rattle.arena.specs.Fields.{Shown}
@@ -50,9 +48,9 @@ of_number n = pos n ∷ []
 abbrev of_bool : Bool → List ℤ
 of_bool b = pos (cond b 1 0) ∷ []
 
-abbrev of_id : MaybeId → List ℤ
-of_id Absent = []
-of_id (Present d) = pos d.index ∷ pos d.generation ∷ []
+abbrev of_id : Option NodeId → List ℤ
+of_id None = []
+of_id (Some d) = pos d.index ∷ pos d.generation ∷ []
 
 abbrev of_shown : Shown → List ℤ
 of_shown t = pos t.len ∷ map pos (take t.len t.bytes)

@@ -1,7 +1,6 @@
 -- Document 01, **States**: what a node wears for its bits, and how styles, tables and the pool change it.
-use Rattle.std.specs.Prelude.{ℕ, ◌+◌, ◌%◌, Bool, true, ◌&&◌, ◌||◌, not, cond, List, [], ◌∷◌, ◌++◌, ltb, leb, length, get_or, set}
-use Rattle.field.specs.declared.MaybeId.{MaybeId}
-use Rattle.field.specs.declared.MaybeId.TheVariants.{Absent, Present}
+use Rattle.field.specs.declared.NodeId.{NodeId}
+use Rattle.std.specs.Prelude.{ℕ, ◌+◌, ◌%◌, Bool, true, ◌&&◌, ◌||◌, not, cond, List, [], ◌∷◌, ◌++◌, ltb, leb, length, get_or, set, None, Option, Some}
 use Rattle.arithmetic.specs.Tests.{same, occ, all}
 use Rattle.arena.specs.Slots.{Slots, is_live, id_at, is_id}
 use Rattle.boxes.specs.Styles.{no_patch, no_state_patch, bare_state, fresh_state, layout_at, state_at}
@@ -60,7 +59,7 @@ unfoldable pub bits_of : Bool → Bool → Bool → ℕ
 bits_of hover pressed focus = cond hover 1 0 + cond pressed 2 0 + cond focus 4 0
 
 -- The bits of slot i, with the ids of the nodes hovered, pressed and in focus.
-abbrev pub bits_by : Slots → MaybeId → MaybeId → MaybeId → ℕ → ℕ
+abbrev pub bits_by : Slots → Option NodeId → Option NodeId → Option NodeId → ℕ → ℕ
 bits_by s hover pressed focus i =
     let d = id_at s i in
     bits_of (is_id hover d) (is_id pressed d) (is_id focus d)
@@ -71,9 +70,9 @@ wear_all pool bits' k [] = k
 wear_all pool bits' k (i ∷ is) = wear_all pool bits' (wear pool k i (bits' i)) is
 
 -- The slot of an id that is live, as a list of at most one.
-unfoldable pub live_slot : ℕ → Slots → MaybeId → List ℕ
-live_slot n s Absent = []
-live_slot n s (Present d) = cond (is_live n s d) (d.index ∷ []) []
+unfoldable pub live_slot : ℕ → Slots → Option NodeId → List ℕ
+live_slot n s None = []
+live_slot n s (Some d) = cond (is_live n s d) (d.index ∷ []) []
 
 -- Those with bits other than 0, each once, in order.
 unfoldable pub bearing : (ℕ → ℕ) → List ℕ → List ℕ → List ℕ

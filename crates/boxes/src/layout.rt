@@ -1,12 +1,11 @@
 // Layout: what a node wants to be, and where it places its children.
 ghost use Rattle.arena.specs.Support.Lists.{Small};
-ghost use Rattle.std.specs.Prelude.{◌≡◌, ◌&&◌, List, ◌≤◌, take, ltb};
+ghost use Rattle.std.specs.Prelude.{◌≡◌, ◌&&◌, List, ◌≤◌, ltb};
 ghost use Rattle.std.specs.Int.Signed.{le_z, lt_z};
+ghost use Rattle.std.specs.List.{list_any};
 ghost use Rattle.arithmetic.specs.Scalar.{add_sat, sub_sat};
-ghost use Rattle.arithmetic.specs.Growth.{grow_sum};
-ghost use Rattle.arena.specs.Slots.{order};
 ghost use Rattle.boxes.specs.Layout as laid;
-ghost use Rattle.boxes.specs.Support.Views.{child_of, axes_of, extent_of, summed_with, grown_of, box_at, past_of, no_shares, inner_of, SumOf, SharedOut};
+ghost use Rattle.boxes.specs.Support.Views.{child_of, axes_of, extent_of, summed_with, grown_of, box_at, past_of, no_shares, content_of, SumOf, SharedOut};
 
 use crate::{Align, Direction, Edges, LayoutSlot, Rect, Size, Style, Viewport};
 use arena::Slot;
@@ -43,7 +42,7 @@ pub(crate) fn holds(x: i32, y: i32, r: Rect) -> bool
 pub fn same_view(v: Viewport, w: Viewport) -> bool
     ensures { result ≡ laid.same_view v w }
 {
-    (v.width == w.width) & (v.height == w.height)
+    v == w
 }
 
 // Where a run starts in free space: at the start where there is none.
@@ -79,6 +78,7 @@ fn widened(a: i64, before: i64, behind: i64) -> i64
 }
 
 // Width and height as lengths along a direction's axes.
+// Kept: apart from `turned`, its inverse, as the definitions have both; of one swap for both a reader could not see which way it goes.
 fn axes(d: Direction, width: i64, height: i64) -> Lengths
     ensures { axes_of result ≡ laid.axes d width height }
 {
@@ -117,6 +117,7 @@ fn with_child(a: Lengths, d: Direction, child: LayoutSlot) -> Lengths
 }
 
 // What children take along the main axis, with a gap between each two, and the largest across: from their summed lengths and their number.
+// Kept: `sum` and `count` apart: the loops count the children as their bound and the place of a grow, and would write a struct's field for it.
 fn content_extent(style: Style, sum: Lengths, count: u32) -> Lengths
     ensures { (cs : List laid.Child) → SumOf style sum count cs → axes_of result ≡ laid.content style cs }
 {
@@ -130,26 +131,13 @@ fn content_extent(style: Style, sum: Lengths, count: u32) -> Lengths
     }
 }
 
-// A width and a height.
-#[derive(Clone, Copy)]
-struct Extent {
-    pub width: i64,
-    pub height: i64,
-}
-
 // Lengths along a direction's axes as a width and a height.
-fn turned(d: Direction, a: Lengths) -> Extent
+fn turned(d: Direction, a: Lengths) -> (i64, i64)
     ensures { extent_of result ≡ laid.extent d (axes_of a) }
 {
     match d {
-        Direction::Row => Extent {
-            width: a.main,
-            height: a.cross,
-        },
-        Direction::Column => Extent {
-            width: a.cross,
-            height: a.main,
-        },
+        Direction::Row => (a.main, a.cross),
+        Direction::Column => (a.cross, a.main),
     }
 }
 
@@ -161,83 +149,68 @@ fn wanted(size: Size, content: i64, before: i64, behind: i64) -> i64
     sized(size, needed)
 }
 
-// What a node of this style wants to be, from its children's summed lengths and their number.
-fn want(style: Style, sum: Lengths, count: u32) -> Extent
+// What a node of this style wants to be, from its children's summed lengths and their number: a width and a height.
+fn want(style: Style, sum: Lengths, count: u32) -> (i64, i64)
     ensures { (cs : List laid.Child) → SumOf style sum count cs → extent_of result ≡ laid.want style cs }
 {
     let d = style.direction;
     let p = style.padding;
-    let width = style.width;
-    let height = style.height;
     let c = content_extent(style, sum, count);
-    let e = turned(d, c);
-    Extent {
-        width: wanted(width, e.width, p.left, p.right),
-        height: wanted(height, e.height, p.top, p.bottom),
-    }
+    let (width, height) = turned(d, c);
+    let wide = wanted(style.width, width, p.left, p.right);
+    let high = wanted(style.height, height, p.top, p.bottom);
+    (wide, high)
 }
 
 // The slot with a wanted size.
-fn with_wants(l: LayoutSlot, e: Extent) -> LayoutSlot
-    ensures { result ≡ laid.with_wants l (extent_of e) }
+fn with_wants(l: LayoutSlot, wants: (i64, i64)) -> LayoutSlot
+    ensures { result ≡ laid.with_wants l (extent_of wants) }
 {
-    let mut out = l;
-    out.wanted_width = e.width;
-    out.wanted_height = e.height;
-    out
+    let (wanted_width, wanted_height) = wants;
+    LayoutSlot {
+        wanted_width,
+        wanted_height,
+        ..l
+    }
 }
 
 // The slot with a box.
 fn with_rect(l: LayoutSlot, rect: Rect) -> LayoutSlot
     ensures { result ≡ laid.with_rect l rect }
 {
-    let mut out = l;
-    out.rect = rect;
-    out
+    LayoutSlot { rect, ..l }
 }
 
-// A corner of a box, raw.
-#[derive(Clone, Copy)]
-struct Point {
-    pub x: i64,
-    pub y: i64,
-}
-
-// A child's wanted size, grown along the main axis.
-fn grown(d: Direction, child: LayoutSlot, growth: i64) -> Extent
+// A child's wanted size, grown along the main axis: a width and a height.
+fn grown(d: Direction, child: LayoutSlot, growth: i64) -> (i64, i64)
     ensures { extent_of result ≡ grown_of d (child_of child) growth }
 {
+    let width = child.wanted_width;
+    let height = child.wanted_height;
     match d {
-        Direction::Row => Extent {
-            width: scalar::saturating_add(child.wanted_width, growth),
-            height: child.wanted_height,
-        },
-        Direction::Column => Extent {
-            width: child.wanted_width,
-            height: scalar::saturating_add(child.wanted_height, growth),
-        },
+        Direction::Row => (scalar::saturating_add(width, growth), height),
+        Direction::Column => (width, scalar::saturating_add(height, growth)),
     }
 }
 
 // A child's box: from the corner of the content, so far along the main axis and so far across.
-fn boxed(d: Direction, corner: Point, shift: Lengths, growth: i64, child: LayoutSlot) -> Rect
-    ensures { result ≡ laid.boxed d corner.x corner.y shift.main shift.cross growth (child_of child) }
+fn boxed(d: Direction, content: Rect, shift: Lengths, growth: i64, child: LayoutSlot) -> Rect
+    ensures { result ≡ laid.boxed d content.x content.y shift.main shift.cross growth (child_of child) }
 {
-    let s = child.style;
-    let m = s.margin;
-    let e = turned(d, shift);
-    let size = grown(d, child, growth);
+    let m = child.style.margin;
+    let (right, down) = turned(d, shift);
+    let (width, height) = grown(d, child, growth);
     Rect {
-        x: widened(corner.x, e.width, m.left),
-        y: widened(corner.y, e.height, m.top),
-        width: size.width,
-        height: size.height,
+        x: widened(content.x, right, m.left),
+        y: widened(content.y, down, m.top),
+        width,
+        height,
     }
 }
 
 // A child's box at the cursor, `run.main`, aligned in the `run.cross` across.
-fn child_box(style: Style, corner: Point, run: Lengths, growth: i64, child: LayoutSlot) -> Rect
-    ensures { result ≡ box_at style corner.x corner.y run.cross run.main growth (child_of child) }
+fn child_box(style: Style, content: Rect, run: Lengths, growth: i64, child: LayoutSlot) -> Rect
+    ensures { result ≡ box_at style content.x content.y run.cross run.main growth (child_of child) }
 {
     let d = style.direction;
     let a = style.align_cross;
@@ -247,7 +220,7 @@ fn child_box(style: Style, corner: Point, run: Lengths, growth: i64, child: Layo
         main: run.main,
         cross: offset(a, free),
     };
-    boxed(d, corner, shift, growth, child)
+    boxed(d, content, shift, growth, child)
 }
 
 // The cursor behind a child and a gap.
@@ -263,77 +236,48 @@ fn past_child(style: Style, run: Lengths, growth: i64, child: LayoutSlot) -> Len
     }
 }
 
-// A length less what stands before and behind in it.
-fn narrowed(a: i64, before: i64, behind: i64) -> i64
-    ensures { result ≡ sub_sat (sub_sat a before) behind }
+// What a node's padding leaves of its box.
+fn content_box(p: Edges, rect: Rect) -> Rect
+    ensures { result ≡ content_of p rect }
 {
-    let rest = scalar::saturating_sub(a, before);
-    scalar::saturating_sub(rest, behind)
-}
-
-// What a node's padding leaves of its box, along its axes.
-fn inner(d: Direction, p: Edges, rect: Rect) -> Lengths
-    ensures { axes_of result ≡ inner_of d p rect }
-{
-    let width = narrowed(rect.width, p.left, p.right);
-    let height = narrowed(rect.height, p.top, p.bottom);
-    axes(d, width, height)
-}
-
-// The corner of a node's content.
-fn content_corner(style: Style, rect: Rect) -> Point
-    ensures { (result.x ≡ add_sat rect.x style.padding.left) × (result.y ≡ add_sat rect.y style.padding.top) }
-{
-    let p = style.padding;
-    Point {
+    let width = scalar::saturating_sub(rect.width, p.left);
+    let height = scalar::saturating_sub(rect.height, p.top);
+    Rect {
         x: scalar::saturating_add(rect.x, p.left),
         y: scalar::saturating_add(rect.y, p.top),
+        width: scalar::saturating_sub(width, p.right),
+        height: scalar::saturating_sub(height, p.bottom),
     }
 }
 
 // What a node's children leave of the room for them, along its main axis.
-fn leftover_of(style: Style, rect: Rect, sum: Lengths, count: u32) -> i64
-    ensures { (cs : List laid.Child) → SumOf style sum count cs → result ≡ sub_sat (inner_of style.direction style.padding rect).main (laid.content style cs).main }
+fn leftover_of(style: Style, room: Lengths, sum: Lengths, count: u32) -> i64
+    ensures { (cs : List laid.Child) → SumOf style sum count cs → result ≡ sub_sat room.main (laid.content style cs).main }
 {
-    let d = style.direction;
-    let p = style.padding;
-    let room = inner(d, p, rect);
     let content = content_extent(style, sum, count);
     scalar::saturating_sub(room.main, content.main)
 }
 
 // Where the run of children starts in a node's room, and the room across.
-fn run_start(style: Style, rect: Rect, free: i64) -> Lengths
-    ensures { (result.main ≡ laid.offset style.justify free) × (result.cross ≡ (inner_of style.direction style.padding rect).cross) }
+fn run_start(style: Style, room: Lengths, free: i64) -> Lengths
+    ensures { (result.main ≡ laid.offset style.justify free) × (result.cross ≡ room.cross) }
 {
-    let d = style.direction;
-    let p = style.padding;
-    let justify = style.justify;
-    let room = inner(d, p, rect);
     Lengths {
-        main: offset(justify, free),
+        main: offset(style.justify, free),
         cross: room.cross,
     }
 }
 
-// Whether one of the first `count` children grows.
-fn some_grow(grows: &[u32; 128], count: u32) -> bool
-    requires { count ≤ 128 }
-    ensures { result ≡ ltb 0 (grow_sum grows.now count) }
+// Whether one of the children grows.
+fn some_grow(grows: &[u32]) -> bool
+    ensures { result ≡ list_any (ltb 0) grows.now }
 {
-    let mut n: u32 = 0;
-    while n < count {
-        let k = n as usize;
-        if grows[k] > 0 {
-            return true;
-        }
-        n = n + 1;
-    }
-    false
+    grows.iter().any(|g| *g > 0)
 }
 
 // Each child's share of the leftover, into shares that are 0; returns what growth leaves free.
 // No plan is made where nothing is left or nothing grows, since its arrays are copied.
+// Kept: an array with a count, as `plan_growth` takes them.
 fn share_out(leftover: i64, grows: &[u32; 128], count: u32, shares: &mut [i64; 128]) -> i64
     requires { (count ≤ 128) × (shares.old ≡ no_shares) }
     ensures { SharedOut leftover grows.now count shares.new result }
@@ -341,34 +285,27 @@ fn share_out(leftover: i64, grows: &[u32; 128], count: u32, shares: &mut [i64; 1
     if leftover <= 0 {
         return leftover;
     }
-    let some = some_grow(grows, count);
+    let n = count as usize;
+    let some = some_grow(&grows[..n]);
     if some {
         let all = *grows;
-        let planned = growth::plan_growth(leftover, all, count as usize);
+        let planned = growth::plan_growth(leftover, all, n);
         *shares = planned;
         return 0;
     }
     leftover
 }
 
-// The first `count` slots of an order store what they want to be, the last first: children before parents.
+// The slots of an order store what they want to be, the last first: children before parents.
 // One function with both loops, since a call for each slot would copy the arrays.
-fn measure_all(
-    slots: [Slot; 128],
-    layout: [LayoutSlot; 128],
-    ids: [u32; 128],
-    count: u32,
-) -> [LayoutSlot; 128]
-    requires { (count ≤ 128) × Small (take count ids) }
-    ensures { result ≡ laid.measure_all slots layout (take count ids) }
+// Kept: the inner loop follows sibling links; no slice holds the children, and it counts them, since the gaps between them go by their number.
+fn measure_all(slots: [Slot; 128], layout: [LayoutSlot; 128], ids: &[u32]) -> [LayoutSlot; 128]
+    requires { Small ids.now }
+    ensures { result ≡ laid.measure_all slots layout ids.now }
 {
     let mut out = layout;
-    let mut j = count;
-    while j > 0 {
-        j = j - 1;
-        let k = j as usize;
-        let id = ids[k];
-        let i = id as usize;
+    for id in ids.iter().rev() {
+        let i = *id as usize;
         let l = out[i];
         let style = l.style;
         let d = style.direction;
@@ -380,7 +317,7 @@ fn measure_all(
             let o = out[c];
             sum = with_child(sum, d, o);
             child = slots[c].next_sibling;
-            n = n + 1;
+            n += 1;
         }
         let e = want(style, sum, n);
         out[i] = with_wants(l, e);
@@ -388,31 +325,22 @@ fn measure_all(
     out
 }
 
-// The children of the first `count` slots of an order get their boxes: parents before children.
+// The children of the slots of an order get their boxes: parents before children.
 // One function with its loops, since a call for each slot would copy the arrays.
-fn arrange_all(
-    slots: [Slot; 128],
-    layout: [LayoutSlot; 128],
-    ids: [u32; 128],
-    count: u32,
-) -> [LayoutSlot; 128]
-    requires { (count ≤ 128) × Small (take count ids) }
-    ensures { result ≡ laid.arrange_all slots layout (take count ids) }
+// Kept: the inner loops follow sibling links; no slice holds the children, and each has its grow and share at the place that it is counted to.
+fn arrange_all(slots: [Slot; 128], layout: [LayoutSlot; 128], ids: &[u32]) -> [LayoutSlot; 128]
+    requires { Small ids.now }
+    ensures { result ≡ laid.arrange_all slots layout ids.now }
 {
     let mut out = layout;
-    let mut j: u32 = 0;
-    while j < count {
-        let k = j as usize;
-        let id = ids[k];
-        let i = id as usize;
+    for id in ids {
+        let i = *id as usize;
         let first = slots[i].first_child;
-        j = j + 1;
         if first >= 128 {
             continue;
         }
         let l = out[i];
         let style = l.style;
-        let rect = l.rect;
         let d = style.direction;
         let mut grows = [0u32; 128];
         let mut sum = Lengths { main: 0, cross: 0 };
@@ -425,13 +353,14 @@ fn arrange_all(
             grows[m] = o.style.grow;
             sum = with_child(sum, d, o);
             child = slots[c].next_sibling;
-            n = n + 1;
+            n += 1;
         }
-        let leftover = leftover_of(style, rect, sum, n);
+        let content = content_box(style.padding, l.rect);
+        let room = axes(d, content.width, content.height);
+        let leftover = leftover_of(style, room, sum, n);
         let mut shares = [0i64; 128];
         let free = share_out(leftover, &grows, n, &mut shares);
-        let corner = content_corner(style, rect);
-        let mut at = run_start(style, rect, free);
+        let mut at = run_start(style, room, free);
         let mut next = first;
         let mut passed: u32 = 0;
         while (next < 128) & (passed < 128) {
@@ -439,11 +368,11 @@ fn arrange_all(
             let o = out[c];
             let m = passed as usize;
             let growth = shares[m];
-            let b = child_box(style, corner, at, growth, o);
+            let b = child_box(style, content, at, growth, o);
             out[c] = with_rect(o, b);
             at = past_child(style, at, growth, o);
             next = slots[c].next_sibling;
-            passed = passed + 1;
+            passed += 1;
         }
     }
     out
@@ -453,10 +382,9 @@ fn arrange_all(
 pub fn solve(slots: [Slot; 128], layout: [LayoutSlot; 128], view: Viewport) -> [LayoutSlot; 128]
     ensures { result ≡ laid.passed slots layout view }
 {
-    let reached = reach_root(slots);
-    let ids = reached.items;
-    let count = reached.count;
-    let mut out = measure_all(slots, layout, ids, count);
+    let order = reach_root(slots).order;
+    let ids = order.as_slice();
+    let mut out = measure_all(slots, layout, ids);
     let root = out[0];
     let rect = Rect {
         x: 0,
@@ -465,5 +393,5 @@ pub fn solve(slots: [Slot; 128], layout: [LayoutSlot; 128], view: Viewport) -> [
         height: view.height,
     };
     out[0] = with_rect(root, rect);
-    arrange_all(slots, out, ids, count)
+    arrange_all(slots, out, ids)
 }

@@ -15,21 +15,22 @@ ghost use Rattle.boxes.specs.Styles.{sized_style};
 use field::EditOp;
 
 // Which way a node lays out its children.
-#[derive(Clone, Copy)]
+#[derive(Clone, Copy, Debug, PartialEq, Eq)]
 pub enum Direction {
     Row,
     Column,
 }
 
 // A width or a height: what the content needs, or a set raw number.
-#[derive(Clone, Copy)]
+// Kept: document 01 names both cases, "automatic or a set number", and callers write them; `None` would not say which one it is.
+#[derive(Clone, Copy, Debug, PartialEq, Eq)]
 pub enum Size {
     Auto,
     Px(i64),
 }
 
 // Where children sit along an axis that has space left.
-#[derive(Clone, Copy)]
+#[derive(Clone, Copy, Debug, PartialEq, Eq)]
 pub enum Align {
     Start,
     Center,
@@ -37,7 +38,7 @@ pub enum Align {
 }
 
 // Space on each side of a box, raw.
-#[derive(Clone, Copy)]
+#[derive(Clone, Copy, Debug, Default, PartialEq, Eq)]
 pub struct Edges {
     pub left: i64,
     pub right: i64,
@@ -46,7 +47,7 @@ pub struct Edges {
 }
 
 // All that layout knows of a node, and its background.
-#[derive(Clone, Copy)]
+#[derive(Clone, Copy, Debug, PartialEq, Eq)]
 pub struct Style {
     pub direction: Direction,
     pub width: Size,
@@ -65,29 +66,23 @@ impl Style {
     pub fn sized(width: Size, height: Size) -> Style
         ensures { result ≡ sized_style width height }
     {
-        let none = Edges {
-            left: 0,
-            right: 0,
-            top: 0,
-            bottom: 0,
-        };
         Style {
             direction: Direction::Row,
-            width: width,
-            height: height,
-            margin: none,
-            padding: none,
+            width,
+            height,
+            margin: Edges::default(),
+            padding: Edges::default(),
             gap: 0,
             grow: 0,
             justify: Align::Start,
             align_cross: Align::Start,
-            background: [0u8; 4],
+            background: [0; 4],
         }
     }
 }
 
 // A box, raw.
-#[derive(Clone, Copy)]
+#[derive(Clone, Copy, Debug, Default, PartialEq, Eq)]
 pub struct Rect {
     pub x: i64,
     pub y: i64,
@@ -96,7 +91,7 @@ pub struct Rect {
 }
 
 // A slot's worn style, its box, and the size it wanted in the last pass.
-#[derive(Clone, Copy)]
+#[derive(Clone, Copy, Debug, PartialEq, Eq)]
 pub struct LayoutSlot {
     pub style: Style,
     pub rect: Rect,
@@ -105,7 +100,7 @@ pub struct LayoutSlot {
 }
 
 // A slot's patch numbers by state bits, its base style, the patch worn and the bits it is worn for.
-#[derive(Clone, Copy)]
+#[derive(Clone, Copy, Debug, PartialEq, Eq)]
 pub struct StateSlot {
     pub table: [u16; 16],
     pub base: Style,
@@ -114,42 +109,35 @@ pub struct StateSlot {
 }
 
 // A style to be worn, and whether wearing it moves boxes.
-#[derive(Clone, Copy)]
+#[derive(Clone, Copy, Debug, PartialEq, Eq)]
 pub struct StatePatch {
     pub style: Style,
     pub touches_layout: bool,
 }
 
 // A point in pixels.
-#[derive(Clone, Copy)]
+#[derive(Clone, Copy, Debug, PartialEq, Eq)]
 pub struct Pixel {
     pub x: i32,
     pub y: i32,
 }
 
-// The pointer: nowhere until it is first moved, then at a pixel.
-#[derive(Clone, Copy)]
-pub enum Pointer {
-    Nowhere,
-    Placed(Pixel),
-}
-
 // The two starts: `Ui::new`, where the pointer is nowhere, and `Ui::at_origin`, where it is at (0, 0).
-#[derive(Clone, Copy)]
+#[derive(Clone, Copy, Debug, PartialEq, Eq)]
 pub enum StartKind {
     New,
     AtOrigin,
 }
 
 // A viewport, raw.
-#[derive(Clone, Copy)]
+#[derive(Clone, Copy, Debug, PartialEq, Eq)]
 pub struct Viewport {
     pub width: i64,
     pub height: i64,
 }
 
 // An event: the pointer at a pixel, a press and a release of the one button, a typed character, an edit.
-#[derive(Clone, Copy)]
+#[derive(Clone, Copy, Debug, PartialEq, Eq)]
 pub enum UiEvent {
     PointerMoved { x: i32, y: i32 },
     PointerPressed,
@@ -159,7 +147,8 @@ pub enum UiEvent {
 }
 
 // What a key asks of the field in focus: a character, or an edit.
-#[derive(Clone, Copy)]
+// Kept: document 01 asks for an enum of two cases in place of the source's closure.
+#[derive(Clone, Copy, Debug, PartialEq, Eq)]
 pub enum Key {
     Char(u32),
     Op(EditOp),

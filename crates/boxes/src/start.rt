@@ -4,10 +4,10 @@ ghost use Rattle.arena.specs.Slots.{NIL, new_slot, new_slots};
 ghost use Rattle.boxes.specs.Pointers.{first_pointer};
 ghost use Rattle.boxes.specs.Styles.{fresh_style, fresh_layout, fresh_state};
 
-use crate::{LayoutSlot, Pixel, Pointer, Rect, Size, StartKind, StateSlot, Style};
+use crate::wearing::bare;
+use crate::{LayoutSlot, Pixel, Rect, Size, StartKind, StateSlot, Style};
 use arena::Slot;
-
-const NIL: u32 = 4294967295;
+use arena::links::NIL;
 
 // A slot of generation 1 without neighbours, but for the next.
 fn first_slot(live: bool, next: u32) -> Slot
@@ -15,7 +15,7 @@ fn first_slot(live: bool, next: u32) -> Slot
 {
     Slot {
         generation: 1,
-        live: live,
+        live,
         parent: NIL,
         first_child: NIL,
         last_child: NIL,
@@ -32,15 +32,7 @@ fn new_slot(n: u32, i: u32) -> Slot
         return first_slot(true, NIL);
     }
     if n <= i {
-        return Slot {
-            generation: 0,
-            live: false,
-            parent: 0,
-            first_child: 0,
-            last_child: 0,
-            prev_sibling: 0,
-            next_sibling: 0,
-        };
+        return Slot::default();
     }
     if n - 1 <= i {
         return first_slot(false, NIL);
@@ -51,11 +43,9 @@ fn new_slot(n: u32, i: u32) -> Slot
 pub fn new_slots(n: u32) -> [Slot; 128]
     ensures { result ≡ new_slots n 0 128 }
 {
-    let mut out = [new_slot(n, 0); 128];
-    let mut i: usize = 0;
-    while i < 128 {
-        out[i] = new_slot(n, i as u32);
-        i += 1;
+    let mut out = [Slot::default(); 128];
+    for (i, s) in out.iter_mut().enumerate() {
+        *s = new_slot(n, i as u32);
     }
     out
 }
@@ -73,12 +63,7 @@ pub fn fresh_layout() -> LayoutSlot
 {
     LayoutSlot {
         style: fresh_style(),
-        rect: Rect {
-            x: 0,
-            y: 0,
-            width: 0,
-            height: 0,
-        },
+        rect: Rect::default(),
         wanted_width: 0,
         wanted_height: 0,
     }
@@ -88,12 +73,7 @@ pub fn fresh_layout() -> LayoutSlot
 pub fn fresh_state() -> StateSlot
     ensures { result ≡ fresh_state }
 {
-    StateSlot {
-        table: [65535u16; 16],
-        base: fresh_style(),
-        applied: 65535,
-        bits: 0,
-    }
+    bare(fresh_style())
 }
 
 // The arrays of a fresh tree.
@@ -110,11 +90,11 @@ pub fn fresh_states() -> [StateSlot; 128]
 }
 
 // Where the pointer of a fresh tree is.
-pub fn first_pointer(kind: StartKind) -> Pointer
+pub fn first_pointer(kind: StartKind) -> Option<Pixel>
     ensures { result ≡ first_pointer kind }
 {
     match kind {
-        StartKind::New => Pointer::Nowhere,
-        StartKind::AtOrigin => Pointer::Placed(Pixel { x: 0, y: 0 }),
+        StartKind::New => None,
+        StartKind::AtOrigin => Some(Pixel { x: 0, y: 0 }),
     }
 }

@@ -1,74 +1,67 @@
 // What nodes wear: the parts of a slot that change with it, the bits of a slot, and which slots wear theirs in turn.
-ghost use Rattle.std.specs.Prelude.{cond, ◌≡◌, ◌+◌, ◌≤◌, [], ◌∷◌, ◌++◌, take};
+ghost use Rattle.std.specs.Prelude.{◌≡◌, ◌≤◌, [], ◌++◌, take};
 ghost use Rattle.boxes.specs.States.{bits_of, bits_by, wearing, with_style, live_slot, bearing};
 ghost use Rattle.arena.specs.Slots.{backwards, is_id};
+ghost use Rattle.arena.specs.Support.Lists.{listed, added_all};
 ghost use Rattle.boxes.specs.Styles.{bare_state};
-ghost use Rattle.arithmetic.specs.Tests.{same, occ};
-ghost use Rattle.boxes.specs.Support.Wearing.{kept_more, kept_live, kept_as, in_turn};
+ghost use Rattle.boxes.specs.Support.Wearing.{kept_more, kept_live, kept_as};
 ghost use Rattle.boxes.specs.States as states;
 
 use crate::state::NO_PATCH;
 use crate::{LayoutSlot, StateSlot, Style, state};
+use arena::listed::Listed;
 use arena::{Slot, links};
-use field::{MaybeId, NodeId};
+use field::NodeId;
 
-// The bits of slot i, which is s, with `hover` the node under the pointer.
-pub fn bits_in(s: Slot, i: u32, hover: MaybeId, pressed: MaybeId, focus: MaybeId) -> u8
-    ensures { result ≡ bits_of (is_id hover (record { index = i; generation = s.generation })) (is_id pressed (record { index = i; generation = s.generation })) (is_id focus (record { index = i; generation = s.generation })) }
-{
-    let d = NodeId {
-        index: i,
-        generation: s.generation,
-    };
-    let hovered = links::is_id(hover, d);
-    let held = links::is_id(pressed, d);
-    let focused = links::is_id(focus, d);
-    state::bits_of(hovered, held, focused)
+// The nodes hovered, pressed and in focus.
+#[derive(Clone, Copy, Debug, PartialEq, Eq)]
+pub struct Marks {
+    pub hover: Option<NodeId>,
+    pub pressed: Option<NodeId>,
+    pub focus: Option<NodeId>,
 }
 
-// The bits of slot i.
-fn bits_at(slots: [Slot; 128], i: u32, hover: MaybeId, pressed: MaybeId, focus: MaybeId) -> u8
-    ensures { result ≡ bits_by slots hover pressed focus i }
+// The bits of slot i, which is s.
+pub fn bits_in(s: Slot, i: u32, marks: Marks) -> u8
+    ensures { result ≡ bits_of (is_id marks.hover (record { index = i; generation = s.generation })) (is_id marks.pressed (record { index = i; generation = s.generation })) (is_id marks.focus (record { index = i; generation = s.generation })) }
 {
-    let s = links::slot_at(slots, i);
-    bits_in(s, i, hover, pressed, focus)
+    let id = Some(NodeId {
+        index: i,
+        generation: s.generation,
+    });
+    state::bits_of(marks.hover == id, marks.pressed == id, marks.focus == id)
 }
 
 // The state slot that wears a patch for the bits.
 pub fn worn(s: StateSlot, patch: u16, bits: u8) -> StateSlot
     ensures { result ≡ wearing s patch bits }
 {
-    let mut out = s;
-    out.applied = patch;
-    out.bits = bits;
-    out
+    StateSlot {
+        applied: patch,
+        bits,
+        ..s
+    }
 }
 
 // The layout slot with another style.
 pub fn styled(l: LayoutSlot, style: Style) -> LayoutSlot
     ensures { result ≡ with_style l style }
 {
-    let mut out = l;
-    out.style = style;
-    out
+    LayoutSlot { style, ..l }
 }
 
 // The state slot with another base style.
 pub fn based(s: StateSlot, style: Style) -> StateSlot
     ensures { result ≡ states.based s style }
 {
-    let mut out = s;
-    out.base = style;
-    out
+    StateSlot { base: style, ..s }
 }
 
 // The state slot with another table.
 pub fn tabled(s: StateSlot, table: [u16; 16]) -> StateSlot
     ensures { result ≡ states.tabled s table }
 {
-    let mut out = s;
-    out.table = table;
-    out
+    StateSlot { table, ..s }
 }
 
 // A state slot without table, bits or patch.
@@ -77,165 +70,77 @@ pub fn bare(base: Style) -> StateSlot
 {
     StateSlot {
         table: [NO_PATCH; 16],
-        base: base,
+        base,
         applied: NO_PATCH,
         bits: 0,
     }
 }
 
-// Slots in turn: the first `count` items.
-#[derive(Clone, Copy)]
-pub struct Turns {
-    pub items: [u32; 6],
-    pub count: u32,
-}
-
-// One slot more, where it is asked for.
-fn turn(t: Turns, asked: bool, i: u32) -> Turns
-    requires { t.count ≤ 5 }
-    ensures { (result.count ≤ t.count + 1) × (in_turn result ≡ in_turn t ++ cond asked (i ∷ []) []) }
+// One more in turn: the slot of an id that is live.
+fn turn_live(turns: &mut Listed<6>, limit: u32, slots: [Slot; 128], id: Option<NodeId>)
+    ensures { turns.new ≡ added_all turns.old (live_slot limit slots id) }
 {
-    if asked {
-        let mut items = t.items;
-        let at = t.count as usize;
-        items[at] = i;
-        return Turns {
-            items: items,
-            count: t.count + 1,
-        };
-    }
-    t
-}
-
-// The slot of an id that is live.
-fn turn_live(t: Turns, limit: u32, slots: [Slot; 128], id: MaybeId) -> Turns
-    requires { t.count ≤ 5 }
-    ensures { (result.count ≤ t.count + 1) × (in_turn result ≡ in_turn t ++ live_slot limit slots id) }
-{
-    match id {
-        MaybeId::Absent => t,
-        MaybeId::Present(d) => {
-            let live = links::is_live(limit, slots, d);
-            turn(t, live, d.index)
+    if let Some(d) = id {
+        if links::is_live(limit, slots, d) {
+            turns.push(d.index);
         }
     }
 }
 
-// The stated slots from the last.
-fn stated_turns(stated: [u32; 3], count: u32) -> Turns
-    ensures { (result.count ≤ 3) × (in_turn result ≡ backwards (take count stated)) }
-{
-    let none = Turns {
-        items: [0u32; 6],
-        count: 0,
-    };
-    let one = turn(none, 2 < count, stated[2]);
-    let two = turn(one, 1 < count, stated[1]);
-    turn(two, 0 < count, stated[0])
-}
-
 // The stated slots from the last, then the nodes hovered, pressed and in focus.
+// Kept: an array and a count, since it answers of a count above the array too, which no slice of it has.
 pub fn in_turn(
     limit: u32,
     slots: [Slot; 128],
     stated: [u32; 3],
     count: u32,
-    hover: MaybeId,
-    pressed: MaybeId,
-    focus: MaybeId,
-) -> Turns
-    ensures { (result.count ≤ 6) × (in_turn result ≡ backwards (take count stated) ++ (live_slot limit slots hover ++ live_slot limit slots pressed ++ live_slot limit slots focus)) }
+    marks: Marks,
+) -> Listed<6>
+    ensures { (result.count ≤ 6) × (listed result ≡ backwards (take count stated) ++ (live_slot limit slots marks.hover ++ live_slot limit slots marks.pressed ++ live_slot limit slots marks.focus)) }
 {
-    let t = stated_turns(stated, count);
-    let hovered = turn_live(t, limit, slots, hover);
-    let held = turn_live(hovered, limit, slots, pressed);
-    turn_live(held, limit, slots, focus)
-}
-
-// Slots kept: the first `count` items.
-#[derive(Clone, Copy)]
-pub struct Kept {
-    pub items: [u32; 3],
-    pub count: u32,
-}
-
-// Whether slot i is not kept.
-fn is_new(k: Kept, i: u32) -> bool
-    requires { k.count ≤ 2 }
-    ensures { result ≡ same (occ i (take k.count k.items)) 0 }
-{
-    let items = k.items;
-    let first = items[0] != i;
-    let second = items[1] != i;
-    if k.count == 0 {
-        return true;
+    let mut turns = Listed::new();
+    for i in stated[..(count as usize).min(3)].iter().rev() {
+        turns.push(*i);
     }
-    if k.count == 1 {
-        return first;
-    }
-    first & second
+    turn_live(&mut turns, limit, slots, marks.hover);
+    turn_live(&mut turns, limit, slots, marks.pressed);
+    turn_live(&mut turns, limit, slots, marks.focus);
+    turns
 }
 
 // One slot more, where it is asked for and not yet there.
-fn keep(k: Kept, asked: bool, i: u32) -> Kept
-    requires { k.count ≤ 2 }
-    ensures { (result ≡ kept_more k asked i) × (result.count ≤ k.count + 1) }
+fn keep(kept: &mut Listed<3>, asked: bool, i: u32)
+    ensures { kept.new ≡ kept_more kept.old asked i }
 {
-    let new = asked & is_new(k, i);
+    let new = asked & !kept.as_slice().contains(&i);
     if new {
-        let mut items = k.items;
-        let at = k.count as usize;
-        items[at] = i;
-        return Kept {
-            items: items,
-            count: k.count + 1,
-        };
+        kept.push(i);
     }
-    k
 }
 
 // The slot of an id that is live is kept, where it has bits.
-fn keep_live(
-    limit: u32,
-    slots: [Slot; 128],
-    hover: MaybeId,
-    pressed: MaybeId,
-    focus: MaybeId,
-    k: Kept,
-    id: MaybeId,
-) -> Kept
-    requires { k.count ≤ 2 }
-    ensures { (result ≡ kept_live (bits_by slots hover pressed focus) k (live_slot limit slots id)) × (result.count ≤ k.count + 1) }
+fn keep_live(kept: &mut Listed<3>, limit: u32, slots: [Slot; 128], marks: Marks, id: Option<NodeId>)
+    ensures { kept.new ≡ kept_live (bits_by slots marks.hover marks.pressed marks.focus) kept.old (live_slot limit slots id) }
 {
-    match id {
-        MaybeId::Absent => k,
-        MaybeId::Present(d) => {
-            let live = links::is_live(limit, slots, d);
-            let bits = bits_at(slots, d.index, hover, pressed, focus);
-            if live {
-                return keep(k, bits != 0, d.index);
-            }
-            k
+    if let Some(d) = id {
+        if links::is_live(limit, slots, d) {
+            let s = links::slot_at(slots, d.index);
+            let bits = bits_in(s, d.index, marks);
+            keep(kept, bits != 0, d.index);
         }
     }
 }
 
-// Those of the nodes hovered, pressed and in focus that have bits are to be stated.
-pub fn restated(
-    limit: u32,
-    slots: [Slot; 128],
-    stated: [u32; 3],
-    hover: MaybeId,
-    pressed: MaybeId,
-    focus: MaybeId,
-) -> Kept
-    ensures { result ≡ kept_as (bearing (bits_by slots hover pressed focus) [] (live_slot limit slots hover ++ live_slot limit slots pressed ++ live_slot limit slots focus)) stated }
+// Those of the nodes hovered, pressed and in focus that have bits are to be stated. Places past the count keep what they held.
+pub fn restated(limit: u32, slots: [Slot; 128], stated: [u32; 3], marks: Marks) -> Listed<3>
+    ensures { result ≡ kept_as (bearing (bits_by slots marks.hover marks.pressed marks.focus) [] (live_slot limit slots marks.hover ++ live_slot limit slots marks.pressed ++ live_slot limit slots marks.focus)) stated }
 {
-    let none = Kept {
+    let mut kept = Listed {
         items: stated,
         count: 0,
     };
-    let one = keep_live(limit, slots, hover, pressed, focus, none, hover);
-    let two = keep_live(limit, slots, hover, pressed, focus, one, pressed);
-    keep_live(limit, slots, hover, pressed, focus, two, focus)
+    keep_live(&mut kept, limit, slots, marks, marks.hover);
+    keep_live(&mut kept, limit, slots, marks, marks.pressed);
+    keep_live(&mut kept, limit, slots, marks, marks.focus);
+    kept
 }

@@ -1,50 +1,48 @@
 // Every edit of one field, lent and by value, and what the two answers come to.
-use damage::same::same_field;
 use field::{EditOp, Edited, Field};
-use report::{put, put_number};
 use std::io;
+use text::refusal::{Refusal, number};
 
-// The two answers are one: number, owner, length, caret and bytes.
-fn alike(a: Edited, b: Edited) -> bool {
-    let v = a.verdict;
-    let w = b.verdict;
-    let f = a.field;
-    let g = b.field;
-    (v.number() == w.number()) & same_field(f, g)
+const EDITS: [EditOp; 6] = [
+    EditOp::Backspace,
+    EditOp::Delete,
+    EditOp::Left,
+    EditOp::Right,
+    EditOp::Home,
+    EditOp::End,
+];
+
+// A character of each size, and two codes that are none.
+const CODES: [u32; 6] = [0x79, 0xe9, 0x20ac, 0x1f600, 0xd800, 0xffffffff];
+
+// Kept: the words of these lines; that the console reads the same ones is its language, and no call of the library has words.
+fn name_of(op: EditOp) -> &'static str {
+    match op {
+        EditOp::Backspace => "backspace",
+        EditOp::Delete => "delete",
+        EditOp::Left => "left",
+        EditOp::Right => "right",
+        EditOp::Home => "home",
+        EditOp::End => "end",
+    }
 }
 
-// The answer is what the rules ask of a field that keeps them, or of one that is broken.
-fn as_asked(sound: bool, before: Field, edited: Field, a: Edited) -> bool {
-    let v = a.verdict;
-    let f = a.field;
+// What the rules ask of a field that keeps them, or of one that is broken.
+fn due(sound: bool, before: Field, edited: Field) -> Edited {
     if sound {
-        return (v.number() == 0) & same_field(f, edited);
+        return Edited {
+            verdict: Ok(()),
+            field: edited,
+        };
     }
-    (v.number() == 1) & same_field(f, before)
-}
-
-fn put_left(rt: &impl Print, before: Field, after: Field) -> io::Result<()> {
-    if same_field(before, after) {
-        put(rt, b", as it was")
-    } else {
-        put(rt, b", edited")
+    Edited {
+        verdict: Err(Refusal::Broken),
+        field: before,
     }
 }
 
-fn put_alike(rt: &impl Print, yes: bool) -> io::Result<()> {
-    if yes {
-        put(rt, b"; by value alike")
-    } else {
-        put(rt, b"; by value OTHERWISE")
-    }
-}
-
-fn put_asked(rt: &impl Print, yes: bool) -> io::Result<()> {
-    if yes {
-        put(rt, b"; as the rules ask\n")
-    } else {
-        put(rt, b"; AGAINST the rules\n")
-    }
+fn word(yes: bool, one: &'static str, other: &'static str) -> &'static str {
+    if yes { one } else { other }
 }
 
 // The rest of the line that began with the field and the edit; whether all is right.
@@ -56,73 +54,63 @@ fn compared(
     lent: Edited,
     valued: Edited,
 ) -> io::Result<bool> {
-    let v = lent.verdict;
-    let f = lent.field;
-    let one = alike(lent, valued);
-    let right = as_asked(sound, before, edited, lent);
-    put(rt, b": ")?;
-    put_number(rt, v.number() as u64)?;
-    put_left(rt, before, f)?;
-    put_alike(rt, one)?;
-    put_asked(rt, right)?;
-    Ok(one & right)
+    let alike = lent == valued;
+    let right = lent == due(sound, before, edited);
+    print!(rt;
+        ": {}, {}",
+        number(lent.verdict),
+        word(lent.field == before, "as it was", "edited")
+    )?;
+    print!(rt; "; by value {}", word(alike, "alike", "OTHERWISE"))?;
+    println!(rt;
+        "; {}",
+        word(right, "as the rules ask", "AGAINST the rules")
+    )?;
+    Ok(alike & right)
 }
 
-fn put_name(rt: &impl Print, op: EditOp) -> io::Result<()> {
-    match op {
-        EditOp::Backspace => put(rt, b", backspace"),
-        EditOp::Delete => put(rt, b", delete"),
-        EditOp::Left => put(rt, b", left"),
-        EditOp::Right => put(rt, b", right"),
-        EditOp::Home => put(rt, b", home"),
-        EditOp::End => put(rt, b", end"),
+// Kept: `name`, `sound` and `f` apart: three functions pass them on, and a row of a table of samples is what they come from.
+fn each_edit(rt: &impl Print, name: &str, sound: bool, f: Field) -> io::Result<bool> {
+    let mut right = true;
+    for op in EDITS {
+        print!(rt; "{name}, {}", name_of(op))?;
+        right &= compared(rt, sound, f, f.edit(op), f.edit_here(op), f.try_edit(op))?;
     }
+    Ok(right)
 }
 
-fn edit(rt: &impl Print, name: &[u8], sound: bool, f: Field, op: EditOp) -> io::Result<bool> {
-    put(rt, name)?;
-    put_name(rt, op)?;
-    compared(rt, sound, f, f.edit(op), f.edit_here(op), f.try_edit(op))
-}
-
-fn insert(rt: &impl Print, name: &[u8], sound: bool, f: Field, ch: u32) -> io::Result<bool> {
-    put(rt, name)?;
-    put(rt, b", insert ")?;
-    put_number(rt, ch as u64)?;
-    compared(
-        rt,
-        sound,
-        f,
-        f.insert(ch),
-        f.insert_here(ch),
-        f.try_insert(ch),
-    )
-}
-
-fn each_edit(rt: &impl Print, name: &[u8], sound: bool, f: Field) -> io::Result<bool> {
-    let a = edit(rt, name, sound, f, EditOp::Backspace)?;
-    let b = edit(rt, name, sound, f, EditOp::Delete)?;
-    let c = edit(rt, name, sound, f, EditOp::Left)?;
-    let d = edit(rt, name, sound, f, EditOp::Right)?;
-    let e = edit(rt, name, sound, f, EditOp::Home)?;
-    let g = edit(rt, name, sound, f, EditOp::End)?;
-    Ok((a & b) & ((c & d) & (e & g)))
-}
-
-// A character of each size, and two codes that are none.
-fn each_insert(rt: &impl Print, name: &[u8], sound: bool, f: Field) -> io::Result<bool> {
-    let a = insert(rt, name, sound, f, 0x79)?;
-    let b = insert(rt, name, sound, f, 0xe9)?;
-    let c = insert(rt, name, sound, f, 0x20ac)?;
-    let d = insert(rt, name, sound, f, 0x1f600)?;
-    let e = insert(rt, name, sound, f, 0xd800)?;
-    let g = insert(rt, name, sound, f, 0xffffffff)?;
-    Ok((a & b) & ((c & d) & (e & g)))
+fn each_insert(rt: &impl Print, name: &str, sound: bool, f: Field) -> io::Result<bool> {
+    let mut right = true;
+    for ch in CODES {
+        print!(rt; "{name}, insert {ch}")?;
+        right &= compared(
+            rt,
+            sound,
+            f,
+            f.insert(ch),
+            f.insert_here(ch),
+            f.try_insert(ch),
+        )?;
+    }
+    Ok(right)
 }
 
 // Every edit of a field, of which the caller says whether it keeps the rules.
-pub(crate) fn asked(rt: &impl Print, name: &[u8], sound: bool, f: Field) -> io::Result<bool> {
+pub(crate) fn asked(rt: &impl Print, name: &str, sound: bool, f: Field) -> io::Result<bool> {
     let edits = each_edit(rt, name, sound, f)?;
     let inserts = each_insert(rt, name, sound, f)?;
     Ok(edits & inserts)
+}
+
+// The same of fields with their names.
+pub(crate) fn all_asked(
+    rt: &impl Print,
+    sound: bool,
+    fields: &[(&str, Field)],
+) -> io::Result<bool> {
+    let mut right = true;
+    for (name, f) in fields {
+        right &= asked(rt, name, sound, *f)?;
+    }
+    Ok(right)
 }

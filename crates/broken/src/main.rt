@@ -10,7 +10,6 @@ mod lending;
 mod rows;
 mod samples;
 
-use report::put;
 use std::io;
 
 fn main(rt: HostRuntime) -> io::Result<()> {
@@ -25,11 +24,8 @@ fn main(rt: HostRuntime) -> io::Result<()> {
     let kept = samples::kept(rt)?;
     let broken = samples::broken(rt)?;
     if kept & broken {
-        put(
-            rt,
-            b"every edit alike in both forms, and as the rules ask\n",
-        )
+        println!(rt; "every edit alike in both forms, and as the rules ask")
     } else {
-        put(rt, b"SOME EDIT IS WRONG\n")
+        println!(rt; "SOME EDIT IS WRONG")
     }
 }

@@ -1,365 +1,399 @@
 // The rows: a link rule, a tree that breaks it alone, and a tree next to that which breaks nothing.
-use crate::asking::Answer;
-use crate::good::Base;
-use crate::{asking, good};
-use damage::{Edits, Link, Mark, Part, StatePart, same};
+use crate::asking::{Call, Refused, ask};
+use crate::good::{Base, id};
+use damage::{done, same};
 use field::NodeId;
-use report::{put, put_number};
 use std::io;
+use text::refusal::Refusal;
 use tree::Ui;
-
-// No neighbour.
-const NIL: u32 = 4294967295;
+use tree::links::NIL;
 
 // What went wrong at a call.
-fn put_wrong(rt: &impl Print, call: u32, answer: Answer) -> io::Result<()> {
-    put(rt, b" ")?;
-    asking::put_call(rt, call)?;
-    put(rt, b" answers ")?;
-    put_number(rt, answer.number as u64)?;
-    if (answer.number == 1) & !answer.untouched {
-        put(rt, b" and changes something")?;
+fn put_wrong(rt: &impl Print, call: Call, answer: Result<(), Refused>) -> io::Result<()> {
+    match answer {
+        Ok(()) => print!(rt; " {call} answers 0;"),
+        Err(
+            Refused {
+                word: Refusal::Broken,
+                untouched: false,
+            },
+        ) => print!(rt; " {call} answers 1 and changes something;"),
+        Err(refused) => print!(rt; " {call} answers {};", refused.word.number()),
     }
-    put(rt, b";")
-}
-
-// Every call is asked with a node that lives in the good tree, and those that name one again with a node that never was.
-const ASKED: u32 = 30;
-
-fn call_of(k: u32) -> u32 {
-    if k < asking::CALLS {
-        return k;
-    }
-    k - asking::CALLS
-}
-
-fn node_of(k: u32, here: u32) -> NodeId {
-    if k < asking::CALLS {
-        return good::id(here);
-    }
-    good::id(NIL)
 }
 
 // Whether a call is answered as it must be: on a broken tree by 1, with everything as it was; on another by no 1, and accepted where it
 // names no node.
-fn as_due(broken: bool, call: u32, answer: Answer) -> bool {
-    if broken {
-        return (answer.number == 1) & answer.untouched;
+fn is_due(broken: bool, call: Call, answer: Result<(), Refused>) -> bool {
+    match answer {
+        Ok(()) => !broken,
+        Err(
+            Refused {
+                word: Refusal::Broken,
+                untouched,
+            },
+        ) => broken & untouched,
+        Err(_) => !broken & call.names_node(),
     }
-    (answer.number != 1) & ((call < asking::NAMING) | (answer.number == 0))
 }
 
-// How many of the calls are; the others are written.
-fn answers_due(rt: &impl Print, u: Ui, here: u32, broken: bool) -> io::Result<u32> {
-    let mut due: u32 = 0;
-    for k in 0..ASKED {
-        let call = call_of(k);
-        let answer = asking::ask(u, call, node_of(k, here));
-        if as_due(broken, call, answer) {
-            due += 1;
-        } else {
-            put_wrong(rt, call, answer)?;
+// Whether all of the calls are; the others are written.
+fn each_due(rt: &impl Print, u: &Ui, calls: &[Call], d: NodeId, broken: bool) -> io::Result<bool> {
+    let mut all = true;
+    for call in calls {
+        let answer = ask(u, *call, d);
+        if !is_due(broken, *call, answer) {
+            put_wrong(rt, *call, answer)?;
+            all = false;
         }
     }
-    Ok(due)
+    Ok(all)
 }
 
-fn damaged(base: Base, edits: Edits) -> Ui {
-    damage::done(good::tree(base), edits)
+// Every call is asked with a node that lives, and those that name one again with a node that never was.
+fn all_due(rt: &impl Print, u: &Ui, living: NodeId, broken: bool) -> io::Result<bool> {
+    let naming = each_due(rt, u, &Call::NAMING, living, broken)?;
+    let nameless = each_due(rt, u, &Call::NAMELESS, living, broken)?;
+    let never = each_due(rt, u, &Call::NAMING, id(NIL), broken)?;
+    Ok(naming & nameless & never)
 }
 
 // Whether the comparison sees the damage; if not, an unchanged tree would say nothing.
-fn seen(base: Base, edits: Edits) -> bool {
-    let u = good::tree(base);
-    !same::same(u, damage::done(u, edits))
+#[inline(never)]
+fn seen(base: Base, bad: &Ui) -> bool {
+    !same(&base.tree(), bad)
 }
 
-// One row. `here` is a node that lives in both trees.
-fn row(
+// What the calls answer on a tree that a damage broke.
+#[inline(never)]
+fn put_refused<F: FnOnce(&mut Ui)>(rt: &impl Print, base: Base, damage: F) -> io::Result<()>
+    requires { F.IsAlwaysCallable damage }
+{
+    let u = done(base.tree(), damage);
+    if !seen(base, &u) {
+        print!(rt; " no damage seen;")?;
+    }
+    if all_due(rt, &u, base.living(), true)? {
+        let asked = 2 * Call::NAMING.len() + Call::NAMELESS.len();
+        print!(rt; " {asked} calls refused by 1, tree unchanged;")?;
+    }
+    Ok(())
+}
+
+// And on one that a damage left whole.
+#[inline(never)]
+fn put_served<F: FnOnce(&mut Ui)>(rt: &impl Print, base: Base, damage: F) -> io::Result<()>
+    requires { F.IsAlwaysCallable damage }
+{
+    let u = done(base.tree(), damage);
+    if all_due(rt, &u, base.living(), false)? {
+        print!(rt; " neighbour served")?;
+    }
+    Ok(())
+}
+
+// One row: a damage that breaks the rule, and one next to it that breaks none. The three above are built into no other function, so that no
+// frame has room for all their trees.
+fn row<B: FnOnce(&mut Ui), N: FnOnce(&mut Ui)>(
     rt: &impl Print,
-    name: &[u8],
+    name: &str,
     base: Base,
-    here: u32,
-    bad: Edits,
-    near: Edits,
-) -> io::Result<()> {
-    put(rt, name)?;
-    put(rt, b":")?;
-    if !seen(base, bad) {
-        put(rt, b" no damage seen;")?;
-    }
-    let refused = answers_due(rt, damaged(base, bad), here, true)?;
-    if refused == ASKED {
-        put(rt, b" ")?;
-        put_number(rt, refused as u64)?;
-        put(rt, b" calls refused by 1, tree unchanged;")?;
-    }
-    let served = answers_due(rt, damaged(base, near), here, false)?;
-    if served == ASKED {
-        put(rt, b" neighbour served")?;
-    }
-    put(rt, b"\n")
+    bad: B,
+    near: N,
+) -> io::Result<()>
+    requires bad { B.IsAlwaysCallable bad }
+    requires near { N.IsAlwaysCallable near }
+{
+    print!(rt; "{name}:")?;
+    put_refused(rt, base, bad)?;
+    put_served(rt, base, near)?;
+    println!(rt)
 }
 
-fn grown(rt: &impl Print, name: &[u8], bad: Edits, near: Edits) -> io::Result<()> {
-    row(rt, name, Base::Grown, 2, bad, near)
-}
-
-fn set(part: Part, at: u32, value: u32) -> Edits {
-    Edits::none().set(part, at, value)
-}
-
-fn link(link: Link, at: u32, value: u32) -> Edits {
-    Edits::none().link(link, at, value)
-}
-
-fn mark(mark: Mark, at: u32, value: u32) -> Edits {
-    Edits::none().mark(mark, at, value)
+fn grown<B: FnOnce(&mut Ui), N: FnOnce(&mut Ui)>(
+    rt: &impl Print,
+    name: &str,
+    bad: B,
+    near: N,
+) -> io::Result<()>
+    requires bad { B.IsAlwaysCallable bad }
+    requires near { N.IsAlwaysCallable near }
+{
+    row(rt, name, Base::Grown, bad, near)
 }
 
 // Slots, patches, the root.
 pub(crate) fn counts(rt: &impl Print) -> io::Result<()> {
     row(
         rt,
-        b"0 slots",
+        "0 slots",
         Base::Alone,
-        0,
-        set(Part::Limit, 0, 0),
-        set(Part::Limit, 0, 1),
+        |u| u.limits.nodes = 0,
+        |u| u.limits.nodes = 1,
     )?;
     row(
         rt,
-        b"129 slots",
+        "129 slots",
         Base::Wide,
-        0,
-        set(Part::Limit, 0, 129),
-        set(Part::Limit, 0, 128),
+        |u| u.limits.nodes = 129,
+        |u| u.limits.nodes = 128,
     )?;
     grown(
         rt,
-        b"65 patches",
-        set(Part::Patches, 0, 65),
-        set(Part::Patches, 0, 64),
+        "65 patches",
+        |u| u.patch_count = 65,
+        |u| u.patch_count = 64,
     )?;
     grown(
         rt,
-        b"root dead",
-        link(Link::Live, 0, 0),
-        link(Link::Generation, 0, 7),
+        "root dead",
+        |u| u.slots[0].live = false,
+        |u| u.slots[0].generation = 7,
     )
 }
 
-// The edits that take slot 8 from the free chain and make it live; linked as the root's last child it is one of the tree.
-fn awake() -> Edits {
-    let live = link(Link::Live, 8, 1).link(Link::Next, 8, NIL);
-    live.set(Part::Free, 0, 7)
+// Slot 8 is taken from the free chain and made live; linked as the root's last child it is one of the tree.
+fn awake(u: &mut Ui) {
+    let slot = &mut u.slots[8];
+    slot.live = true;
+    slot.next_sibling = NIL;
+    u.free = 7;
 }
 
-fn adopted() -> Edits {
-    let inward = awake().link(Link::Parent, 8, 0).link(Link::Prev, 8, 5);
-    let outward = inward.link(Link::Next, 5, 8).link(Link::Last, 0, 8);
-    outward.set(Part::Count, 0, 8)
+fn adopted(u: &mut Ui) {
+    awake(u);
+    let slot = &mut u.slots[8];
+    slot.parent = 0;
+    slot.prev_sibling = 5;
+    u.slots[5].next_sibling = 8;
+    u.slots[0].last_child = 8;
+    u.live = 8;
 }
 
-// Slot 6 dead and last in the free chain; unlinked from 5 it is a free slot.
-fn asleep() -> Edits {
-    link(Link::Live, 6, 0).link(Link::Next, 11, 6)
+fn childless(u: &mut Ui) {
+    let slot = &mut u.slots[5];
+    slot.first_child = NIL;
+    slot.last_child = NIL;
 }
 
-fn dismissed() -> Edits {
-    let childless = asleep().link(Link::First, 5, NIL).link(Link::Last, 5, NIL);
-    childless.set(Part::Count, 0, 6)
+// Slot 6 is dead and last in the free chain; unlinked from 5 it is a free slot.
+fn asleep(u: &mut Ui) {
+    u.slots[6].live = false;
+    u.slots[11].next_sibling = 6;
 }
 
-// Slot 6 the only child of 4 as well as of 5; moved it is 4's alone.
-fn shared() -> Edits {
-    link(Link::First, 4, 6).link(Link::Last, 4, 6)
+fn dismissed(u: &mut Ui) {
+    asleep(u);
+    childless(u);
+    u.live = 6;
 }
 
-fn moved() -> Edits {
-    let childless = shared().link(Link::First, 5, NIL).link(Link::Last, 5, NIL);
-    childless.link(Link::Parent, 6, 4)
+// Slot 6 is the only child of 4 as well as of 5; moved it is 4's alone.
+fn shared(u: &mut Ui) {
+    let slot = &mut u.slots[4];
+    slot.first_child = 6;
+    slot.last_child = 6;
+}
+
+fn moved(u: &mut Ui) {
+    shared(u);
+    childless(u);
+    u.slots[6].parent = 4;
+}
+
+// The previous links of two dead slots, which may lead anywhere.
+fn dead_cycle(u: &mut Ui) {
+    u.slots[8].prev_sibling = 7;
+    u.slots[7].prev_sibling = 8;
 }
 
 // Live nodes are just those reached from the root, each in one child chain.
 pub(crate) fn reach(rt: &impl Print) -> io::Result<()> {
-    grown(rt, b"live node not reached", awake(), adopted())?;
-    grown(rt, b"reached slot dead", asleep(), dismissed())?;
-    grown(rt, b"slot in two chains", shared(), moved())?;
-    grown(
-        rt,
-        b"cycle",
-        link(Link::Next, 4, 2),
-        link(Link::Prev, 8, 7).link(Link::Prev, 7, 8),
-    )
+    grown(rt, "live node not reached", awake, adopted)?;
+    grown(rt, "reached slot dead", asleep, dismissed)?;
+    grown(rt, "slot in two chains", shared, moved)?;
+    grown(rt, "cycle", |u| u.slots[4].next_sibling = 2, dead_cycle)
 }
 
 // The children of 1 in the order 2, 4, 3 by their next links alone, and by both.
-fn reordered() -> Edits {
-    let turned = link(Link::Next, 2, 4).link(Link::Next, 4, 3);
-    turned.link(Link::Next, 3, NIL).link(Link::Last, 1, 3)
+fn turned(u: &mut Ui) {
+    u.slots[2].next_sibling = 4;
+    u.slots[4].next_sibling = 3;
+    u.slots[3].next_sibling = NIL;
+    u.slots[1].last_child = 3;
+}
+
+fn reordered(u: &mut Ui) {
+    turned(u);
+    u.slots[4].prev_sibling = 2;
+    u.slots[3].prev_sibling = 4;
 }
 
 // Links equal both ways. Of a dead slot only the next link is ruled.
 pub(crate) fn links(rt: &impl Print) -> io::Result<()> {
     grown(
         rt,
-        b"parent link one way",
-        link(Link::Parent, 3, 5),
-        link(Link::Parent, 8, 5),
+        "parent link one way",
+        |u| u.slots[3].parent = 5,
+        |u| u.slots[8].parent = 5,
     )?;
     grown(
         rt,
-        b"previous link one way",
-        link(Link::Prev, 3, NIL),
-        link(Link::Prev, 8, NIL),
+        "previous link one way",
+        |u| u.slots[3].prev_sibling = NIL,
+        |u| u.slots[8].prev_sibling = NIL,
+    )?;
+    grown(rt, "next links one way", turned, reordered)?;
+    grown(
+        rt,
+        "first child one way",
+        |u| u.slots[3].first_child = 128,
+        |u| u.slots[8].first_child = 128,
     )?;
     grown(
         rt,
-        b"next links one way",
-        reordered(),
-        reordered().link(Link::Prev, 4, 2).link(Link::Prev, 3, 4),
+        "last child one way",
+        |u| u.slots[1].last_child = 3,
+        |u| u.slots[8].last_child = 3,
     )?;
     grown(
         rt,
-        b"first child one way",
-        link(Link::First, 3, 128),
-        link(Link::First, 8, 128),
-    )?;
-    grown(
-        rt,
-        b"last child one way",
-        link(Link::Last, 1, 3),
-        link(Link::Last, 8, 3),
-    )?;
-    grown(
-        rt,
-        b"parent above the root",
-        link(Link::Parent, 0, 1),
-        link(Link::Parent, 7, 1),
+        "parent above the root",
+        |u| u.slots[0].parent = 1,
+        |u| u.slots[7].parent = 1,
     )
 }
 
-fn swapped() -> Edits {
-    let turned = link(Link::Next, 7, 8).link(Link::Next, 8, 9);
-    turned.set(Part::Free, 0, 7)
+// The free chain in the order 7, 8, 9, 10, 11.
+fn swapped(u: &mut Ui) {
+    u.slots[7].next_sibling = 8;
+    u.slots[8].next_sibling = 9;
+    u.free = 7;
 }
 
-fn rotated() -> Edits {
-    let turned = link(Link::Next, 11, 8).link(Link::Next, 8, NIL);
-    turned.set(Part::Free, 0, 7)
+// In the order 7, 9, 10, 11, 8.
+fn rotated(u: &mut Ui) {
+    u.slots[11].next_sibling = 8;
+    u.slots[8].next_sibling = NIL;
+    u.free = 7;
 }
 
 // The free chain, 8, 7, 9, 10, 11, and the live count.
 pub(crate) fn free(rt: &impl Print) -> io::Result<()> {
     grown(
         rt,
-        b"dead slot not in the free chain",
-        set(Part::Free, 0, 7),
-        swapped(),
+        "dead slot not in the free chain",
+        |u| u.free = 7,
+        swapped,
     )?;
     grown(
         rt,
-        b"slot twice in the free chain",
-        link(Link::Next, 11, 8),
-        rotated(),
+        "slot twice in the free chain",
+        |u| u.slots[11].next_sibling = 8,
+        rotated,
     )?;
-    grown(rt, b"wrong live count", set(Part::Count, 0, 8), adopted())
+    grown(rt, "wrong live count", |u| u.live = 8, adopted)
 }
 
 // Worn and table numbers, and bits. The pool has two patches.
 pub(crate) fn states(rt: &impl Print) -> io::Result<()> {
     grown(
         rt,
-        b"worn number past the pool",
-        set(Part::OfState(StatePart::Applied), 3, 2),
-        set(Part::OfState(StatePart::Applied), 3, 1),
+        "worn number past the pool",
+        |u| u.states[3].applied = 2,
+        |u| u.states[3].applied = 1,
     )?;
     grown(
         rt,
-        b"table number past the pool",
-        set(Part::OfState(StatePart::Table), 3, 2),
-        set(Part::OfState(StatePart::Table), 3, 1),
+        "table number past the pool",
+        |u| u.states[3].table[15] = 2,
+        |u| u.states[3].table[15] = 1,
     )?;
     grown(
         rt,
-        b"bits 8",
-        set(Part::OfState(StatePart::Bits), 3, 8),
-        set(Part::OfState(StatePart::Bits), 3, 7),
+        "bits 8",
+        |u| u.states[3].bits = 8,
+        |u| u.states[3].bits = 7,
     )
 }
 
-fn stated_slots(first: u32, second: u32, third: u32, count: u32) -> Edits {
-    let two = set(Part::Stated, 0, first).set(Part::Stated, 1, second);
-    two.set(Part::Stated, 2, third)
-        .set(Part::StatedCount, 0, count)
+fn stated_slots(u: &mut Ui, slots: [u32; 3], count: u32) {
+    u.stated = slots;
+    u.stated_count = count;
 }
 
 // Stated slots, and the queue.
 pub(crate) fn stated(rt: &impl Print) -> io::Result<()> {
     grown(
         rt,
-        b"4 stated slots",
-        stated_slots(2, 3, 0, 4),
-        stated_slots(2, 3, 0, 3),
+        "4 stated slots",
+        |u| stated_slots(u, [2, 3, 0], 4),
+        |u| stated_slots(u, [2, 3, 0], 3),
     )?;
     grown(
         rt,
-        b"stated slot twice",
-        stated_slots(2, 3, 2, 3),
-        stated_slots(2, 3, 2, 2),
+        "stated slot twice",
+        |u| stated_slots(u, [2, 3, 2], 3),
+        |u| stated_slots(u, [2, 3, 2], 2),
     )?;
     grown(
         rt,
-        b"stated slot out of range",
-        stated_slots(12, 3, 0, 2),
-        stated_slots(11, 3, 0, 2),
+        "stated slot out of range",
+        |u| stated_slots(u, [12, 3, 0], 2),
+        |u| stated_slots(u, [11, 3, 0], 2),
     )?;
     grown(
         rt,
-        b"queue over the limit",
-        set(Part::Outputs, 0, 13),
-        set(Part::Outputs, 0, 12),
+        "queue over the limit",
+        |u| u.output_count = 13,
+        |u| u.output_count = 12,
     )
 }
 
+fn owned(u: &mut Ui, generation: u64) {
+    u.fields[1].owner = Some(NodeId {
+        index: 2,
+        generation,
+    });
+}
+
 // Field 1 with a text of one or two bytes, so long, and the caret there.
-fn text(first: u32, second: u32, length: u32, caret: u32) -> Edits {
-    let bytes = mark(Mark::First, 1, first).mark(Mark::Second, 1, second);
-    bytes
-        .mark(Mark::Length, 1, length)
-        .mark(Mark::Caret, 1, caret)
+fn text(u: &mut Ui, start: [u8; 2], len: u8, caret: u8) {
+    let field = &mut u.fields[1];
+    field.bytes[..2].copy_from_slice(&start);
+    field.len = len;
+    field.cursor = caret;
 }
 
 pub(crate) fn fields(rt: &impl Print) -> io::Result<()> {
     grown(
         rt,
-        b"two fields with one owner",
-        mark(Mark::Owner, 1, 1),
-        mark(Mark::Owner, 1, 2),
+        "two fields with one owner",
+        |u| owned(u, 1),
+        |u| owned(u, 2),
     )?;
     grown(
         rt,
-        b"field of length 65",
-        text(55, 46, 65, 0),
-        text(55, 46, 64, 0),
+        "field of length 65",
+        |u| text(u, [55, 46], 65, 0),
+        |u| text(u, [55, 46], 64, 0),
     )?;
     grown(
         rt,
-        b"text not UTF-8",
-        text(128, 0, 1, 0),
-        text(128, 0, 0, 0),
+        "text not UTF-8",
+        |u| text(u, [128, 0], 1, 0),
+        |u| text(u, [128, 0], 0, 0),
     )?;
     grown(
         rt,
-        b"caret inside a character",
-        text(195, 169, 2, 1),
-        text(195, 169, 2, 2),
+        "caret inside a character",
+        |u| text(u, [195, 169], 2, 1),
+        |u| text(u, [195, 169], 2, 2),
     )?;
     grown(
         rt,
-        b"caret past the length",
-        text(55, 46, 1, 2),
-        text(55, 46, 1, 1),
+        "caret past the length",
+        |u| text(u, [55, 46], 1, 2),
+        |u| text(u, [55, 46], 1, 1),
     )
 }

@@ -1,12 +1,12 @@
 // The fields that are asked: some that keep the rules, and one or more that break each rule.
-use crate::lending::asked;
-use field::{EditOp, Field, MaybeId, NodeId};
+use crate::lending::all_asked;
+use field::{EditOp, Field, NodeId};
 use std::io;
 
 // A field of a node, with a character of each size, ten bytes in all, and what an old text left behind them. The caret is behind the
 // second character.
 fn four() -> Field {
-    let owner = MaybeId::Present(NodeId {
+    let owner = Some(NodeId {
         index: 3,
         generation: 7,
     });
@@ -23,7 +23,7 @@ fn four() -> Field {
 // A field of nobody with a letter `n` times, the caret behind.
 fn letters(n: u8) -> Field {
     Field {
-        owner: MaybeId::Absent,
+        owner: None,
         bytes: [0x61; 64],
         len: n,
         cursor: n,
@@ -38,63 +38,38 @@ fn counted(len: u8, cursor: u8) -> Field {
 }
 
 // The field with three other bytes first.
-fn begun(a: u8, b: u8, c: u8) -> Field {
+fn begun(first: [u8; 3]) -> Field {
     let mut f = counted(10, 0);
-    f.bytes[0] = a;
-    f.bytes[1] = b;
-    f.bytes[2] = c;
+    f.bytes[..3].copy_from_slice(&first);
     f
 }
 
 // Fields that keep the rules.
 pub(crate) fn kept(rt: &impl Print) -> io::Result<bool> {
-    let a = asked(rt, b"empty", true, Field::empty())?;
-    let b = asked(rt, b"four characters", true, four())?;
-    let c = asked(rt, b"caret at the start", true, counted(10, 0))?;
-    let d = asked(rt, b"caret at the end", true, counted(10, 10))?;
-    let e = asked(rt, b"61 bytes", true, letters(61))?;
-    let g = asked(rt, b"64 bytes", true, letters(64))?;
-    Ok((a & b) & ((c & d) & (e & g)))
+    let fields = [
+        ("empty", Field::empty()),
+        ("four characters", four()),
+        ("caret at the start", counted(10, 0)),
+        ("caret at the end", counted(10, 10)),
+        ("61 bytes", letters(61)),
+        ("64 bytes", letters(64)),
+    ];
+    all_asked(rt, true, &fields)
 }
 
-// Fields whose length or caret is out of its place.
-fn out_of_place(rt: &impl Print) -> io::Result<bool> {
-    let a = asked(rt, b"length 65", false, letters(65))?;
-    let b = asked(rt, b"length 255", false, counted(255, 0))?;
-    let c = asked(rt, b"caret past the length", false, counted(10, 11))?;
-    let d = asked(rt, b"caret past 64", false, counted(10, 200))?;
-    let e = asked(
-        rt,
-        b"caret inside a character of two bytes",
-        false,
-        counted(10, 2),
-    )?;
-    let g = asked(
-        rt,
-        b"caret inside a character of four bytes",
-        false,
-        counted(10, 9),
-    )?;
-    Ok((a & b) & ((c & d) & (e & g)))
-}
-
-// Fields whose text is not UTF-8.
-fn ill_formed(rt: &impl Print) -> io::Result<bool> {
-    let a = asked(rt, b"last character cut short", false, counted(9, 3))?;
-    let b = asked(
-        rt,
-        b"a byte that starts no character",
-        false,
-        begun(0x80, 0x61, 0x61),
-    )?;
-    let c = asked(rt, b"an overlong form", false, begun(0xc0, 0xaf, 0x61))?;
-    let d = asked(rt, b"a surrogate", false, begun(0xed, 0xa0, 0x80))?;
-    Ok((a & b) & (c & d))
-}
-
-// Fields that break the rules.
+// Fields that break the rules: whose length or caret is out of its place, and whose text is not UTF-8.
 pub(crate) fn broken(rt: &impl Print) -> io::Result<bool> {
-    let places = out_of_place(rt)?;
-    let texts = ill_formed(rt)?;
-    Ok(places & texts)
+    let fields = [
+        ("length 65", letters(65)),
+        ("length 255", counted(255, 0)),
+        ("caret past the length", counted(10, 11)),
+        ("caret past 64", counted(10, 200)),
+        ("caret inside a character of two bytes", counted(10, 2)),
+        ("caret inside a character of four bytes", counted(10, 9)),
+        ("last character cut short", counted(9, 3)),
+        ("a byte that starts no character", begun([0x80, 0x61, 0x61])),
+        ("an overlong form", begun([0xc0, 0xaf, 0x61])),
+        ("a surrogate", begun([0xed, 0xa0, 0x80])),
+    ];
+    all_asked(rt, false, &fields)
 }

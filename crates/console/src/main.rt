@@ -4,19 +4,21 @@
 mod calls;
 mod digest;
 mod label;
+mod shown;
 mod styles;
 mod turn;
 mod waiting;
 
-use calls::Kind;
-use label::Label;
-use report::line::Line;
+use calls::Call;
 use report::pipes;
-use report::pipes::Pipes;
 use std::io;
-use std::io::IsTerminal;
+use std::io::{BufReader, BufWriter, IsTerminal, Write};
 use tree::{Ui, UiLimits};
-use waiting::Waiting;
+
+// The most bytes of a script, and of a line without its newline.
+const SCRIPT: usize = 1048576;
+
+const LINE: usize = 1024;
 
 // Tells a person at a terminal how to go on. Standard output carries the answers alone, so that this goes to standard error.
 fn greet(rt: &impl Eprint, input: &impl IsTerminal) -> io::Result<()> {
@@ -28,72 +30,54 @@ fn greet(rt: &impl Eprint, input: &impl IsTerminal) -> io::Result<()> {
     Ok(())
 }
 
-// The tree goes on in the last answer. A script is at most 1,048,576 bytes long, and each line takes one or more of them.
+// The tree goes on in the last answer. Each line takes one byte or more of the script.
 fn main(rt: HostRuntime) -> io::Result<()> {
-    let mut input = rt.stdin();
-    greet(&rt, &input)?;
+    let alloc = rt.alloc();
+    greet(&rt, &rt.stdin())?;
+    let mut input = BufReader::new(alloc, rt.stdin())?;
+    let mut out = BufWriter::new(alloc, io::writer(&rt))?;
     let mut c = Ui::new(UiLimits { nodes: 1 });
-    let mut waiting = Waiting::none();
-    let mut label = Label::none();
-    let mut text = [0u8; 1025];
-    let mut chunk = [0u8; 4096];
-    let mut out = [0u8; 4096];
-    let mut held = Pipes::new();
-    let mut read: usize = 0;
-    while read <= 1048576 {
-        let taken = pipes::next_line(&rt, &mut input, &mut text, &mut chunk, &out, held)?;
-        held = taken.pipes;
-        let n = taken.len;
-        read += taken.taken;
-        if taken.taken == 0 {
+    let mut patches = Vec::new(alloc);
+    let mut label = Vec::new(alloc);
+    let mut line = Vec::new(alloc);
+    let mut left = SCRIPT;
+    for _ in 0..=SCRIPT {
+        let n = pipes::next_line(&mut input, &mut out, &mut line)?;
+        if n == 0 {
             break;
         }
-        if (1024 < n) | (1048576 < read) {
-            held = pipes::put(&rt, &mut out, held, Line::malformed())?;
+        let text = line.strip_suffix(b"\n").unwrap_or(line.as_slice());
+        if LINE < text.len() || left < n {
+            writeln!(out, "?")?;
             break;
         }
-        if calls::passed_over(&text, n) {
+        left -= n;
+        if matches!(text, [] | [b'#', ..]) {
             continue;
         }
-        let call = calls::read(&text, n);
-        let word = call.word;
-        let mut line = Line::malformed();
-        match calls::kind_of(word) {
-            Kind::Reading => {
-                line = turn::asked(&c.tree, word);
+        match calls::read(alloc, text)? {
+            None => writeln!(out, "?")?,
+            Some(Call::Reading(reading)) => turn::asked(&mut out, &c.tree, reading)?,
+            Some(Call::Change(change)) => {
+                turn::changed(&mut c, change, &mut patches);
+                turn::plain(&mut out, c.answer)?;
             }
-            Kind::Change => {
-                turn::changed(&mut c, call, waiting);
-                waiting = waiting.after(word);
-                let v = c.verdict;
-                line = turn::plain(v);
+            Some(Call::Insert(parent)) => turn::inserted(&mut out, &mut c, parent)?,
+            Some(Call::Output) => turn::taken(&mut out, &mut c)?,
+            Some(Call::Measure(bytes)) => {
+                turn::answer(&mut out, text::measure(bytes.as_slice()), "0")?;
             }
-            Kind::Event(e) => {
-                turn::handled(&mut c, e);
-                let v = c.verdict;
-                line = turn::plain(v);
+            Some(Call::Patch(patch)) => {
+                waiting::add(&mut out, &mut patches, waiting::PATCHES, &[patch])?;
             }
-            Kind::Both => {
-                line = turn::asked(&c.tree, word);
-                turn::changed(&mut c, call, waiting);
+            Some(Call::Label(more)) => {
+                waiting::add(&mut out, &mut label, waiting::LABEL, more.as_slice())?;
             }
-            Kind::Patch(touches) => {
-                line = waiting.answer();
-                waiting = waiting.with(call.patch(touches));
-            }
-            Kind::Label => {
-                let added = label.with(&text, n);
-                line = added.line;
-                label = added.label;
-            }
-            Kind::Lines(asked) => {
-                held = label.put_lines(&rt, &mut out, held, asked)?;
-                label.len = 0;
-                // All is written but the newline.
-                line = Line::empty();
+            Some(Call::Lines(asked)) => {
+                label::break_lines(alloc, &mut out, label.as_slice(), asked)?;
+                label.clear();
             }
         }
-        held = pipes::put(&rt, &mut out, held, line)?;
     }
-    pipes::flush(&rt, &out, held.held)
+    out.flush()
 }

@@ -1,58 +1,36 @@
-// The patches that wait for the next `pool`.
-use crate::calls::Word;
-use crate::styles;
-use report::line::Line;
-use tree::StatePatch;
+// What waits for a later call: patches for the next `pool`, and a label's bytes for the next `lines`. Of both one more may wait than the call
+// takes, so that a script can show its refusal.
+use std::io;
+use std::io::Write;
+use tree::{Size, StatePatch, Style};
 
-// Up to 65 patches: one more than a pool may hold, so that a script can show its refusal. The last one's contents are never used.
-#[derive(Clone, Copy)]
-pub struct Waiting {
-    pub patches: [StatePatch; 64],
-    pub count: u32,
+pub(crate) const PATCHES: usize = 65;
+
+pub(crate) const LABEL: usize = 1100;
+
+// More behind what waits, and how much waits then; malformed where that would be more than may wait.
+pub(crate) fn add<T: Copy>(
+    out: &mut impl Write,
+    waiting: &mut Vec<T>,
+    most: usize,
+    more: &[T],
+) -> io::Result<()> {
+    if waiting.len().saturating_add(more.len()) > most {
+        return writeln!(out, "?");
+    }
+    waiting.extend_from_slice(more)?;
+    writeln!(out, "0 {}", waiting.len())
 }
 
-impl Waiting {
-    pub(crate) fn none() -> Waiting {
-        let patch = StatePatch {
-            style: styles::fresh(),
-            touches_layout: false,
-        };
-        Waiting {
-            patches: [patch; 64],
-            count: 0,
-        }
+// The first 64 patches; what stands behind them is never read.
+pub(crate) fn pool(patches: &[StatePatch]) -> [StatePatch; 64] {
+    let none = StatePatch {
+        style: Style::sized(Size::Auto, Size::Auto),
+        touches_layout: false,
+    };
+    let mut pool = [none; 64];
+    for (place, patch) in pool.iter_mut().zip(patches) {
+        *place = *patch;
     }
-
-    // One more, where fewer than 65 wait.
-    pub(crate) fn with(mut self, patch: StatePatch) -> Waiting {
-        let n = self.count;
-        if n < 64 {
-            let at = n as usize;
-            self.patches[at] = patch;
-        }
-        if n < 65 {
-            self.count = n + 1;
-        }
-        self
-    }
-
-    // What one more is answered.
-    pub(crate) fn answer(self) -> Line {
-        let n = self.count;
-        if n < 65 {
-            return Line::accepted().number((n + 1) as u64);
-        }
-        Line::malformed()
-    }
-
-    // What waits after a call: nothing after `pool`.
-    pub(crate) fn after(mut self, word: Word) -> Waiting {
-        match word {
-            Word::Pool => {
-                self.count = 0;
-                self
-            }
-            _ => self,
-        }
-    }
+    pool
 }

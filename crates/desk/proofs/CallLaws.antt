@@ -1,4 +1,5 @@
 -- One walk over the calls gives the three laws. Assumes nothing.
+use Rattle.std.specs.Prelude.{None, Option, Some}
 use mathlib.Core.Bool.{◌&&◌, not}
 use mathlib.Core.List.{List, [], ◌∷◌}
 use Prim.Native.Nat.{ℕ}
@@ -6,9 +7,8 @@ use native.Mathlib.Omega.{arith}
 use lib.Dec.{ltb}
 use Rattle.text.specs.declared.refusal.Refusal.TheVariants.{Full, Root, Foreign, Long}
 use Rattle.field.specs.declared.NodeId.{NodeId}
-use Rattle.field.specs.declared.MaybeId.TheVariants.{Absent}
 use Rattle.field.specs.declared.Field.{Field}
-use Rattle.arithmetic.specs.Tests.{same, all, Maybe, nothing, just}
+use Rattle.arithmetic.specs.Tests.{same, all}
 use Rattle.arithmetic.proofs.TestLaws.{bool_cases}
 use Rattle.tree.specs.Slots.{NIL, nobody}
 use Rattle.tree.specs.States.{in_pool}
@@ -29,13 +29,13 @@ use Rattle.desk.specs.CallLaws.{ARefusedCallChangesNothing, ABrokenTreeIsRefused
 use Rattle.desk.proofs.FairCalls.{Fair, FairCall, Behind, accepted, refused, either, guarded_is_fair, live_is_fair, question_is_fair}
 
 module _ (u : Ui) where
-  taken : (d : NodeId) (m : Maybe Field) → Behind u (take_field u d m)
-  taken d (just f) = accepted u
-  taken d nothing = go (first_field vacant (reclaimed (limit_of u) u.slots u.fields))
+  taken : (d : NodeId) (m : Option Field) → Behind u (take_field u d m)
+  taken d (Some f) = accepted u
+  taken d None = go (first_field vacant (reclaimed (limit_of u) u.slots u.fields))
     where
-      go : (m : Maybe Field) → Behind u (take_vacant u d m)
-      go nothing = refused u Full (λ e. omega arith)
-      go (just f) = accepted u
+      go : (m : Option Field) → Behind u (take_vacant u d m)
+      go None = refused u Full (λ e. omega arith)
+      go (Some f) = accepted u
 
   oldest : (ds : List NodeId) → Behind u (take_oldest u ds)
   oldest [] = accepted u
@@ -54,7 +54,7 @@ module _ (u : Ui) where
   change_is_fair (make_field d) = live_is_fair u {A = ℕ} d 0 (taken d (field_of d u.fields))
   change_is_fair (solve v) = guarded_is_fair u {A = ℕ} 0 (either u (not u.dirty && same_view u.solved_for v) (accepted u) (accepted u))
   change_is_fair (handle e) = guarded_is_fair u {A = ℕ} 0 (accepted u)
-  change_is_fair next_output = guarded_is_fair u Absent (oldest (waiting_of u))
+  change_is_fair next_output = guarded_is_fair u None (oldest (waiting_of u))
 
   call_is_fair : (c : Call) → Fair u (step u c).number (step u c).next
   unfolding step

@@ -1,4 +1,5 @@
 -- Each call is refused as the history says, and an accepted one keeps the invariant. Assumes nothing.
+use Rattle.std.specs.Prelude.{None, Option, Some}
 use mathlib.Core.Path.{◌≡◌, refl, sym, ap, ap₂, subst, ◌∙◌}
 use mathlib.Core.Logic.{◌≢◌}
 use mathlib.Core.Bool.{Bool, true, false, ◌&&◌, ◌||◌, not}
@@ -11,10 +12,8 @@ use lib.ListN.{length, length-append, get_or-append}
 use lib.Seq.{length-take-le}
 use Rattle.text.specs.declared.refusal.Refusal.TheVariants.{Full, Root, Foreign, Long}
 use Rattle.field.specs.declared.NodeId.{NodeId}
-use Rattle.field.specs.declared.MaybeId.{MaybeId}
-use Rattle.field.specs.declared.MaybeId.TheVariants.{Absent, Present}
 use Rattle.field.specs.declared.Field.{Field}
-use Rattle.arithmetic.specs.Tests.{same, δ, all, Maybe, nothing, just}
+use Rattle.arithmetic.specs.Tests.{same, δ, all}
 use Rattle.tree.specs.Slots.{NIL, id_at, at, nobody, same_id}
 use Rattle.tree.specs.Styles.{no_patch}
 use Rattle.tree.specs.States.{in_pool}
@@ -58,15 +57,15 @@ use Rattle.desk.proofs.KeySteps.{key_agrees}
 module _ {k : ℕ} {u : Ui} {h : History} (v : Inv k u h) where
   output_as_said : AsSaid k h (desk.next_output u) 0 (λ _. h)
   unfolding desk.next_output
-  output_as_said = guarded_as_said v Absent (taken (waiting_of u) refl)
+  output_as_said = guarded_as_said v None (taken (waiting_of u) refl)
     where
       taken : (ds : List NodeId) → waiting_of u ≡ ds → AsSaid k h (take_oldest u ds) 0 (λ _. h)
-      taken [] e = accepted_as_said v u Absent (λ _. h) (inv_after v)
+      taken [] e = accepted_as_said v u None (λ _. h) (inv_after v)
       taken (d ∷ ds) e =
           let n = waiting_length u v.nodes.links.rel.small v.queue in
           let f = v.queue.few in
           let l : length (d ∷ ds) ≡ u.output_count = ap length (sym e) ∙ n in
-          accepted_as_said v (with_waiting u ds) (Present d) (λ _. h) (inv_after (with_outputs v ds (omega arith)))
+          accepted_as_said v (with_waiting u ds) (Some d) (λ _. h) (inv_after (with_outputs v ds (omega arith)))
 
   event_agrees : (e : UiEvent) → Inv k (applied_event u (hit_of u) e) (after_event h e)
   event_agrees (PointerMoved x y) = move_agrees v x y
@@ -83,10 +82,10 @@ differs : {G : Type 0} → false ≡ true → G
 differs e = let z : ◌≡◌ {A = ℕ} 0 1 = cc in absurd (omega arith)
 
 -- what has a name keeps it
-still_named : (more : List NodeId) {named : List NodeId} {o : MaybeId} (m : Maybe ℕ) → NamedBy named o m → NamedBy (named ++ more) o m
-still_named more nothing n = record { is_the_id = n.is_the_id; is_in = tt }
-still_named more {named} (just m) n = record {
-  is_the_id = n.is_the_id ∙ ap Present (sym (get_or-append named more nobody m n.is_in));
+still_named : (more : List NodeId) {named : List NodeId} {o : Option NodeId} (m : Option ℕ) → NamedBy named o m → NamedBy (named ++ more) o m
+still_named more None n = record { is_the_id = n.is_the_id; is_in = tt }
+still_named more {named} (Some m) n = record {
+  is_the_id = n.is_the_id ∙ ap Some (sym (get_or-append named more nobody m n.is_in));
   is_in = let e = length-append named more in let b = n.is_in in omega arith;
 }
 
@@ -225,21 +224,21 @@ module _ {k : ℕ} {u : Ui} {h : History} (v : Inv k u h) where
   count_is_a_sum nil = refl
   count_is_a_sum (node i g x cs sib) = let a = count_is_a_sum cs in let b = count_is_a_sum sib in omega arith
 
-  field_agrees : (d : NodeId) (hd : has h d ≡ true) (f : Field) → field_of d u.fields ≡ nothing → first_field vacant (reclaimed (limit_of u) u.slots u.fields) ≡ just f
+  field_agrees : (d : NodeId) (hd : has h d ≡ true) (f : Field) → field_of d u.fields ≡ None → first_field vacant (reclaimed (limit_of u) u.slots u.fields) ≡ Some f
       → Inv k (with_fields u (claimed d (reclaimed (limit_of u) u.slots u.fields))) (after_change h (make_field d))
   field_agrees d hd f none some =
       with_texts v (λ i g x. has_both d i g) (λ x. keep_text x.text) _
       (a_field_is_made k u h.tree v.nodes.links v.nodes.texts d hd keep_text refl (λ z. refl) f none some)
 
   -- the node has a field, takes a vacant one, or there is none
-  on_a_node : (d : NodeId) (hd : has h d ≡ true) (w : Known (OwnText u.fields) d h.tree) (m : Maybe Field) → field_of d u.fields ≡ m
-      → AsSaid k h (take_field u d m) (refusal_of_field h (just w.load)) (λ _. after_change h (make_field d))
-  on_a_node d hd w (just f) q =
-      let hf : has_field w.load ≡ true = a_node_with_a_text_has_a_field w.load (just f) (w.holds ∙ ap text_in q) in
+  on_a_node : (d : NodeId) (hd : has h d ≡ true) (w : Known (OwnText u.fields) d h.tree) (m : Option Field) → field_of d u.fields ≡ m
+      → AsSaid k h (take_field u d m) (refusal_of_field h (Some w.load)) (λ _. after_change h (make_field d))
+  on_a_node d hd w (Some f) q =
+      let hf : has_field w.load ≡ true = a_node_with_a_text_has_a_field w.load (Some f) (w.holds ∙ ap text_in q) in
       rw hf (accepted_as_said v u 0 _
       (subst (λ (t : Forest Info). Inv (suc k) u (with_tree h t h.styling.dirty)) (sym (a_field_stays k u h.tree v.nodes.links v.nodes.texts d hd keep_text refl (λ z. refl) f q)) (inv_after v)))
-  on_a_node d hd w nothing q =
-      let hf : has_field w.load ≡ false = a_node_with_a_text_has_a_field w.load nothing (w.holds ∙ ap text_in q) in
+  on_a_node d hd w None q =
+      let hf : has_field w.load ≡ false = a_node_with_a_text_has_a_field w.load None (w.holds ∙ ap text_in q) in
       let c = count_is_a_sum h.tree in
       let n = v.nodes.texts.eight in
       a_field_is_vacant_or_every_field_is_a_live_nodes v.nodes.links.rel u.fields v.nodes.texts.owners v.nodes.texts.texts
@@ -257,7 +256,7 @@ module _ {k : ℕ} {u : Ui} {h : History} (v : Inv k u h) where
       (bool_cases (has h d) (λ b. rw b) (λ b. rw (b, find_nothing d h.tree b)))
       (live_as_said v d 0 (λ b.
       let w = find_known (OwnText u.fields) d h.tree v.nodes.texts.texts b in
-      subst (λ (m : Maybe Info). AsSaid k h (take_field u d (field_of d u.fields)) (refusal_of_field h m) (λ _. after_change h (make_field d))) (sym w.found) (on_a_node d b w (field_of d u.fields) refl)))
+      subst (λ (m : Option Info). AsSaid k h (take_field u d (field_of d u.fields)) (refusal_of_field h m) (λ _. after_change h (make_field d))) (sym w.found) (on_a_node d b w (field_of d u.fields) refl)))
 
   -- ---- a pass
 

@@ -1,4 +1,5 @@
 -- What follows from demand 3, as specs/Corollaries.antt states it. Assumes nothing.
+use Rattle.std.specs.Prelude.{None, Option, Some}
 use mathlib.Core.Path.{◌≡◌, refl, sym, ap, subst, ◌∙◌}
 use mathlib.Core.Bool.{true, false, ◌&&◌, not, cond}
 use mathlib.Core.List.{List, [], ◌∷◌, ◌++◌}
@@ -12,7 +13,7 @@ use Rattle.field.specs.Text.{Text, text, bytes_of, caret_of, typed, keyed}
 use Rattle.field.specs.Metres.{is_space, metres_of}
 use Rattle.field.proofs.Blanks.{Blank, typed_blank, keyed_blank, blank_is_empty}
 use Rattle.field.specs.declared.NodeId.{NodeId}
-use Rattle.arithmetic.specs.Tests.{same, all, Maybe, nothing, just}
+use Rattle.arithmetic.specs.Tests.{same, all}
 use Rattle.tree.specs.Forest.{Forest, nil, node, has_both, has_id, kids_of, set_kids_of, cut_of, find}
 use Rattle.tree.specs.Nodes.{Info, with_field, change_named, change_of, wears, restyled, with_table, bare}
 use Rattle.tree.specs.Layout.{view_rect, same_view}
@@ -60,9 +61,9 @@ keys_blank (Op op ∷ ks) t b k = keys_blank ks (keyed op t) b (keyed_blank op t
 
 -- a node's text is that of its keys
 abbrev ByKeys : Log → ℕ → ℕ → Info → Type 0
-ByKeys log i g x = (t : Text) → x.text ≡ just t → t ≡ text_of_keys (log x.name)
+ByKeys log i g x = (t : Text) → x.text ≡ Some t → t ≡ text_of_keys (log x.name)
 
-no_text_lem : {G : Type 0} (m : Maybe Text) (t : Text) → m ≡ nothing → m ≡ just t → G
+no_text_lem : {G : Type 0} (m : Option Text) (t : Text) → m ≡ None → m ≡ Some t → G
 no_text_lem m t e f = let z : ◌≡◌ {A = ℕ} 0 1 = cc in absurd (omega arith)
 
 -- by id, as the history changes its nodes
@@ -88,20 +89,20 @@ keys_kept : (log : Log) {t t' : Forest Info} → SameNodes t t' → AllF (ByKeys
 keys_kept log r a = r.keeps (ByKeys log) (λ i g x y en et p z q. p z (sym et ∙ q) ∙ ap (λ (m : ℕ). text_of_keys (log m)) (sym en)) a
 
 -- a key
-key_logged : (log : Log) (focus : Maybe ℕ) (key : Key) (t : Forest Info) → AllF (ByKeys log) t
+key_logged : (log : Log) (focus : Option ℕ) (key : Key) (t : Forest Info) → AllF (ByKeys log) t
     → AllF (ByKeys (log_key focus key log)) (change_named focus (λ x. with_field x (map_maybe (key_text key) x.text)) t)
-key_logged log nothing key t a = keys_kept log (same_nodes_each _ (λ i g x. (refl, refl)) t) a
-key_logged log (just m) key t a =
-    all_map_f (ByKeys (log_key (just m) key log)) (λ i g x. cond (same m x.name) (with_field x (map_maybe (key_text key) x.text)) x) t
-    (all_map (ByKeys log) (λ i g x. ByKeys (log_key (just m) key log) i g (cond (same m x.name) (with_field x (map_maybe (key_text key) x.text)) x)) t
+key_logged log None key t a = keys_kept log (same_nodes_each _ (λ i g x. (refl, refl)) t) a
+key_logged log (Some m) key t a =
+    all_map_f (ByKeys (log_key (Some m) key log)) (λ i g x. cond (same m x.name) (with_field x (map_maybe (key_text key) x.text)) x) t
+    (all_map (ByKeys log) (λ i g x. ByKeys (log_key (Some m) key log) i g (cond (same m x.name) (with_field x (map_maybe (key_text key) x.text)) x)) t
     (λ i g x _ p. bool_cases (same m x.name)
     (λ b. rw b (λ y q. rw b (typed x x.text refl p y q)))
     (λ b. rw b (λ y q. rw b (p y q)))) a)
   where
-    typed : (x : Info) (o : Maybe Text) → x.text ≡ o → ByKeys log 0 0 x → (y : Text) → map_maybe (key_text key) x.text ≡ just y → y ≡ text_of_keys (log x.name ++ key ∷ [])
-    typed x nothing e p y q = no_text_lem (map_maybe (key_text key) x.text) y (ap (map_maybe (key_text key)) e) q
-    typed x (just t₀) e p y q =
-        let r : just (key_text key t₀) ≡ just y = sym (ap (map_maybe (key_text key)) e) ∙ q in
+    typed : (x : Info) (o : Option Text) → x.text ≡ o → ByKeys log 0 0 x → (y : Text) → map_maybe (key_text key) x.text ≡ Some y → y ≡ text_of_keys (log x.name ++ key ∷ [])
+    typed x None e p y q = no_text_lem (map_maybe (key_text key) x.text) y (ap (map_maybe (key_text key)) e) q
+    typed x (Some t₀) e p y q =
+        let r : Some (key_text key t₀) ≡ Some y = sym (ap (map_maybe (key_text key)) e) ∙ q in
         let s : key_text key t₀ ≡ y = cc in
         sym s ∙ ap (key_text key) (p t₀ e) ∙ sym (typed_on_one_more (text [] []) (log x.name) key)
 
@@ -122,7 +123,7 @@ module _ (k : ℕ) (u : Ui) (h : History) (v : Inv k u h) (log : Log) (a : AllF 
   Own i g x = OwnName h.named i g x × OwnText u.fields i g x
 
   -- of two nodes, those with the id have one name and one text, and no other has that name
-  made_logged : (x₀ : Info) → find d h.tree ≡ just x₀ → Own d.index d.generation x₀
+  made_logged : (x₀ : Info) → find d h.tree ≡ Some x₀ → Own d.index d.generation x₀
       → AllF (ByKeys (begin_at x₀.text x₀.name log)) (change_of d (λ x. with_field x (keep_text x.text)) h.tree)
   made_logged x₀ f own₀ =
       all_map_f (ByKeys (begin_at x₀.text x₀.name log)) (λ i g x. cond (has_both d i g) (with_field x (keep_text x.text)) x) h.tree
@@ -133,22 +134,22 @@ module _ (k : ℕ) (u : Ui) (h : History) (v : Inv k u h) (log : Log) (a : AllF 
       (all_both (ByKeys log) Own h.tree a
       (all_both (OwnName h.named) (OwnText u.fields) h.tree v.nodes.naming.own v.nodes.texts.texts)))
     where
-      the_node : (i g : ℕ) (x : Info) → ByKeys log i g x → Own i g x → d ≡ record { index = i; generation = g } → (o : Maybe Text) → x₀.text ≡ o
-          → (t : Text) → keep_text x.text ≡ just t → t ≡ text_of_keys (begin_at o x₀.name log x.name)
-      the_node i g x p own e nothing z t q =
+      the_node : (i g : ℕ) (x : Info) → ByKeys log i g x → Own i g x → d ≡ record { index = i; generation = g } → (o : Option Text) → x₀.text ≡ o
+          → (t : Text) → keep_text x.text ≡ Some t → t ≡ text_of_keys (begin_at o x₀.name log x.name)
+      the_node i g x p own e None z t q =
           let n : x.name ≡ x₀.name = v.nodes.naming.apart x.name x₀.name own.0.0 own₀.0.0 (own.0.1 ∙ sym e ∙ sym own₀.0.1) in
-          let y : x.text ≡ nothing = own.1 ∙ ap (λ (c : NodeId). text_in (field_of c u.fields)) (sym e) ∙ sym own₀.1 ∙ z in
-          let r : just (text [] []) ≡ just t = sym (ap keep_text y) ∙ q in
+          let y : x.text ≡ None = own.1 ∙ ap (λ (c : NodeId). text_in (field_of c u.fields)) (sym e) ∙ sym own₀.1 ∙ z in
+          let r : Some (text [] []) ≡ Some t = sym (ap keep_text y) ∙ q in
           let s : text [] [] ≡ t = cc in
           rw (n, same_refl x₀.name) (sym s)
-      the_node i g x p own e (just t₀) z t q =
-          let y : x.text ≡ just t₀ = own.1 ∙ ap (λ (c : NodeId). text_in (field_of c u.fields)) (sym e) ∙ sym own₀.1 ∙ z in
-          let r : just t₀ ≡ just t = sym (ap keep_text y) ∙ q in
+      the_node i g x p own e (Some t₀) z t q =
+          let y : x.text ≡ Some t₀ = own.1 ∙ ap (λ (c : NodeId). text_in (field_of c u.fields)) (sym e) ∙ sym own₀.1 ∙ z in
+          let r : Some t₀ ≡ Some t = sym (ap keep_text y) ∙ q in
           p t (y ∙ r)
 
-      another : (i g : ℕ) (x : Info) → ByKeys log i g x → Own i g x → has_both d i g ≡ false → (o : Maybe Text)
-          → (t : Text) → x.text ≡ just t → t ≡ text_of_keys (begin_at o x₀.name log x.name)
-      another i g x p own b nothing t q =
+      another : (i g : ℕ) (x : Info) → ByKeys log i g x → Own i g x → has_both d i g ≡ false → (o : Option Text)
+          → (t : Text) → x.text ≡ Some t → t ≡ text_of_keys (begin_at o x₀.name log x.name)
+      another i g x p own b None t q =
           eq_cases x.name x₀.name
           (λ e _ _.
           let c : record { index = i; generation = g } ≡ d = sym own.0.1 ∙ ap (λ (m : ℕ). get_or h.named m nobody) e ∙ own₀.0.1 in
@@ -156,13 +157,13 @@ module _ (k : ℕ) (u : Ui) (h : History) (v : Inv k u h) (log : Log) (a : AllF 
           let w : false ≡ true = sym b ∙ y in
           let z : ◌≡◌ {A = ℕ} 0 1 = cc in absurd (omega arith))
           (λ e s _. rw s (p t q))
-      another i g x p own b (just t₀) t q = p t q
+      another i g x p own b (Some t₀) t q = p t q
 
 -- ---- a call and its keys
 
-refusal_of_no_node : (h : History) (m : Maybe Info) → m ≡ nothing → refusal_of_field h m ≡ 0 → ⊥
-refusal_of_no_node h nothing e = λ q. omega arith
-refusal_of_no_node h (just x) e = λ q. let z : ◌≡◌ {A = ℕ} 0 1 = cc in omega arith
+refusal_of_no_node : (h : History) (m : Option Info) → m ≡ None → refusal_of_field h m ≡ 0 → ⊥
+refusal_of_no_node h None e = λ q. omega arith
+refusal_of_no_node h (Some x) e = λ q. let z : ◌≡◌ {A = ℕ} 0 1 = cc in omega arith
 
 module _ (k : ℕ) (u : Ui) (h : History) (v : Inv k u h) (log : Log) (a : AllF (ByKeys log) h.tree) (new : NodeId) where
   change_logged : (c : Change) → refusal_of_change h c ≡ 0 → AllF (ByKeys (logged_change h c log)) (after_change h c).tree
@@ -178,7 +179,7 @@ module _ (k : ℕ) (u : Ui) (h : History) (v : Inv k u h) (log : Log) (a : AllF 
       (λ b. absurd (refusal_of_no_node h (find d h.tree) (find_nothing d h.tree b) j))
     where
       made : Known (Own k u h v log a d) d h.tree → AllF (ByKeys (log_field (find d h.tree) log)) (change_of d (λ x. with_field x (keep_text x.text)) h.tree)
-      made K = subst (λ (m : Maybe Info). AllF (ByKeys (log_field m log)) (change_of d (λ x. with_field x (keep_text x.text)) h.tree)) (sym K.found) (made_logged k u h v log a d K.load K.found K.holds)
+      made K = subst (λ (m : Option Info). AllF (ByKeys (log_field m log)) (change_of d (λ x. with_field x (keep_text x.text)) h.tree)) (sym K.found) (made_logged k u h v log a d K.load K.found K.holds)
   change_logged (solve w) j =
       bool_cases (not h.styling.dirty && same_view h.styling.viewport w)
       (λ b. rw b a)
@@ -190,7 +191,7 @@ module _ (k : ℕ) (u : Ui) (h : History) (v : Inv k u h) (log : Log) (a : AllF 
   unfolding refusal_of accept logged grown
   call_logged (insert d) j =
       all_set_kids_of (ByKeys log) d _ h.tree
-      (all_app (ByKeys log) (kids_of d h.tree) _ (all_kids_of (ByKeys log) d h.tree a) ((λ t q. no_text_lem nothing t refl q), tt, tt)) a
+      (all_app (ByKeys log) (kids_of d h.tree) _ (all_kids_of (ByKeys log) d h.tree a) ((λ t q. no_text_lem None t refl q), tt, tt)) a
   call_logged (change c) j = change_logged c j
   call_logged (ask q) j = a
 
@@ -209,25 +210,25 @@ runs_logged k u h (c ∷ cs) v small m log a =
 
 -- ---- what a field says
 
-found_holds : (P : ℕ → ℕ → Info → Type 0) (d : NodeId) (f : Forest Info) → AllF P f → (x : Info) → find d f ≡ just x → P d.index d.generation x
+found_holds : (P : ℕ → ℕ → Info → Type 0) (d : NodeId) (f : Forest Info) → AllF P f → (x : Info) → find d f ≡ Some x → P d.index d.generation x
 found_holds P d f a x e =
     bool_cases (has_id d f)
     (λ b. let K = find_known P d f a b in
-    let q : just K.load ≡ just x = sym K.found ∙ e in
+    let q : Some K.load ≡ Some x = sym K.found ∙ e in
     let r : K.load ≡ x = cc in
     subst (λ (y : Info). P d.index d.generation y) r K.holds)
-    (λ b. let q : nothing ≡ just x = sym (find_nothing d f b) ∙ e in
+    (λ b. let q : None ≡ Some x = sym (find_nothing d f b) ∙ e in
     let z : ◌≡◌ {A = ℕ} 0 1 = cc in absurd (omega arith))
 
 module _ (kind : StartKind) (limit : ℕ) (cs : List Call) (n : length cs < 2 ^ 63) (m : Machines cs) where
   all_logged : AllF (ByKeys (keys_after kind limit cs)) (history_after kind limit cs).tree
   unfolding start
-  all_logged = runs_logged 0 (new_one kind limit cs) (start kind limit) cs (starts kind limit) (omega arith) m no_keys ((λ t q. no_text_lem nothing t refl q), tt, tt)
+  all_logged = runs_logged 0 (new_one kind limit cs) (start kind limit) cs (starts kind limit) (omega arith) m no_keys ((λ t q. no_text_lem None t refl q), tt, tt)
 
-  text_of_keys_lem : (d : NodeId) (x : Info) → HasField kind limit cs d x → (o : Maybe Text) → x.text ≡ o → x.text ≡ just (text_of_keys (keys_after kind limit cs x.name))
-  text_of_keys_lem d x f nothing e = let b = f.1 in let z : ◌≡◌ {A = ℕ} 0 1 = cc in absurd (omega arith)
-  text_of_keys_lem d x f (just t) e =
-      e ∙ ap (λ (y : Text). just y) (found_holds (ByKeys (keys_after kind limit cs)) d (history_after kind limit cs).tree all_logged x f.0 t e)
+  text_of_keys_lem : (d : NodeId) (x : Info) → HasField kind limit cs d x → (o : Option Text) → x.text ≡ o → x.text ≡ Some (text_of_keys (keys_after kind limit cs x.name))
+  text_of_keys_lem d x f None e = let b = f.1 in let z : ◌≡◌ {A = ℕ} 0 1 = cc in absurd (omega arith)
+  text_of_keys_lem d x f (Some t) e =
+      e ∙ ap (λ (y : Text). Some y) (found_holds (ByKeys (keys_after kind limit cs)) d (history_after kind limit cs).tree all_logged x f.0 t e)
 
   -- what is said of a field is said of the text of its keys
   of_keys : {A : Type 0} (none : A) (read : Text → Answer A) (d : NodeId) (x : Info) → HasField kind limit cs d x

@@ -1,5 +1,6 @@
 -- Each call first tests the link rules; behind that it is a choice between refusals by other numbers, which give back the tree, and an acceptance.
 -- So it is with each question. Assumes nothing.
+use Rattle.std.specs.Prelude.{None, Option, Some}
 use mathlib.Core.Path.{◌≡◌, refl, sym, ◌∙◌}
 use mathlib.Core.Bool.{Bool, true, false, cond}
 use mathlib.Core.List.{List}
@@ -12,9 +13,7 @@ use Rattle.field.specs.Fields.{field_ok, held}
 use Rattle.field.specs.Metres.{metres_of, field_metres}
 use Rattle.field.proofs.Reading.{reading_of}
 use Rattle.field.specs.declared.NodeId.{NodeId}
-use Rattle.field.specs.declared.MaybeId.TheVariants.{Absent}
 use Rattle.field.specs.declared.Field.{Field}
-use Rattle.arithmetic.specs.Tests.{Maybe, nothing, just}
 use Rattle.arithmetic.proofs.BoolLaws.{pick_of, no_more}
 use Rattle.tree.specs.Slots.{is_live}
 use Rattle.tree.specs.Styles.{no_rect}
@@ -81,9 +80,9 @@ module _ (u : Ui) where
   unfolding on_field
   read_is_fair d none read x = live_is_fair d none (go (field_of d u.fields) refl)
     where
-      go : (m : Maybe Field) → field_of d u.fields ≡ m → Behind u (of_field u none read m)
-      go nothing e = refused Fieldless (λ z. omega arith)
-      go (just f) e =
+      go : (m : Option Field) → field_of d u.fields ≡ m → Behind u (of_field u none read m)
+      go None e = refused Fieldless (λ z. omega arith)
+      go (Some f) e =
           x f (λ b. found_field_is_ruled (λ g. field_ok g ≡ true) d u.fields f (a_test_of_all_is_of_each field_ok u.fields (a_tree_not_broken_keeps_each_rule u b).fields) e)
 
   -- a read leaves the tree as it is
@@ -98,6 +97,6 @@ module _ (u : Ui) where
       asked (read_is_fair d 0 (λ f. record { next = u; answer = field_metres f }) (λ f r. record { back = λ _. refl; not_by_1 = λ b. rw (r b) (metres_are_not_by_1 (held f)) }))
   question_is_fair (rect d) = asked (live_is_fair d no_rect accepted)
   question_is_fair (live d) = asked (guarded_is_fair false accepted)
-  question_is_fair (first_child d) = asked (guarded_is_fair Absent accepted)
-  question_is_fair (next_sibling d) = asked (live_is_fair d Absent accepted)
+  question_is_fair (first_child d) = asked (guarded_is_fair None accepted)
+  question_is_fair (next_sibling d) = asked (live_is_fair d None accepted)
   question_is_fair (absorb s) = asked (guarded_is_fair {A = ℕ} 0 accepted)

@@ -1,11 +1,12 @@
 -- Before the first move from a start whose pointer is nowhere: press and release find no node, and keys no focus. One induction over the list,
 -- on the history alone. Assumes nothing.
+use Rattle.std.specs.Prelude.{None, Option, Some}
 use mathlib.Core.Path.{◌≡◌, ap}
 use mathlib.Core.Bool.{true, ◌&&◌, not, cond}
 use mathlib.Core.List.{List, [], ◌∷◌}
 use Prim.Native.Nat.{ℕ}
 use Rattle.field.specs.declared.NodeId.{NodeId}
-use Rattle.arithmetic.specs.Tests.{same, all, Maybe, nothing, just}
+use Rattle.arithmetic.specs.Tests.{same, all}
 use Rattle.arithmetic.proofs.BoolLaws.{no_more, both}
 use Rattle.arithmetic.proofs.TestLaws.{bool_cases}
 use Rattle.field.specs.Text.{Text}
@@ -16,7 +17,6 @@ use Rattle.tree.specs.Pointers.{under_pointer}
 use Rattle.tree.specs.History.{History, Input, Call, Change, refusal_of, after_change, accept, recorded, grown, refresh, after_event, same_name}
 use Rattle.tree.specs.History.Call.{insert, change, ask}
 use Rattle.tree.specs.History.Change.{remove, set_style, set_state_table, set_patch_pool, make_field, solve, handle, next_output}
-use Rattle.boxes.specs.declared.Pointer.TheVariants.{Nowhere}
 use Rattle.boxes.specs.declared.UiEvent.{UiEvent}
 use Rattle.boxes.specs.declared.UiEvent.TheVariants.{PointerMoved, PointerPressed, PointerReleased, TextEntered, Edit}
 use Rattle.desk.specs.Demand3.{follow}
@@ -25,18 +25,18 @@ use Rattle.desk.specs.Corollaries.{is_move, change_moves, moves, NoMove}
 
 -- the input of a start whose pointer is nowhere
 abbrev pub untouched : Input
-untouched = record { pointer = Nowhere; pressed = nothing; focus = nothing }
+untouched = record { pointer = None; pressed = None; focus = None }
 
 module _ (h : History) (e : h.input ≡ untouched) where
   event_touches_nothing : (v : UiEvent) → not (is_move v) ≡ true → (after_event h v).input ≡ untouched
   event_touches_nothing (PointerMoved x y) s = no_more s
   event_touches_nothing PointerPressed s =
-      ap (λ (i : Input). record { pointer = i.pointer; pressed = under_pointer nothing (λ pixel. hit_f pixel nothing h.tree) i.pointer; focus = i.focus }) e
+      ap (λ (i : Input). record { pointer = i.pointer; pressed = under_pointer None (λ pixel. hit_f pixel None h.tree) i.pointer; focus = i.focus }) e
   event_touches_nothing PointerReleased s =
       ap (λ (i : Input). record {
         pointer = i.pointer;
-        pressed = nothing;
-        focus = cond (same_name i.pressed (under_pointer nothing (λ pixel. hit_f pixel nothing h.tree) i.pointer)) i.pressed i.focus;
+        pressed = None;
+        focus = cond (same_name i.pressed (under_pointer None (λ pixel. hit_f pixel None h.tree) i.pointer)) i.pressed i.focus;
       }) e
   event_touches_nothing (TextEntered ch) s = e
   event_touches_nothing (Edit op) s = e
@@ -64,22 +64,22 @@ module _ (h : History) (e : h.input ≡ untouched) where
 
 -- nor does a key fall into a field, where none fell before
 module _ (log : Log) (none : (m : ℕ) → log m ≡ []) where
-  key_falls_nowhere : (focus : Maybe ℕ) → focus ≡ nothing → (v : UiEvent) (m : ℕ) → log_event focus v log m ≡ []
+  key_falls_nowhere : (focus : Option ℕ) → focus ≡ None → (v : UiEvent) (m : ℕ) → log_event focus v log m ≡ []
   key_falls_nowhere focus e (PointerMoved x y) m = none m
   key_falls_nowhere focus e PointerPressed m = none m
   key_falls_nowhere focus e PointerReleased m = none m
   key_falls_nowhere focus e (TextEntered ch) m = rw e (none m)
   key_falls_nowhere focus e (Edit op) m = rw e (none m)
 
-  begun_is_empty : (o : Maybe Text) (name m : ℕ) → begin_at o name log m ≡ []
-  begun_is_empty nothing name m = bool_cases (same m name) (λ b. rw b) (λ b. rw b (none m))
-  begun_is_empty (just t) name m = none m
+  begun_is_empty : (o : Option Text) (name m : ℕ) → begin_at o name log m ≡ []
+  begun_is_empty None name m = bool_cases (same m name) (λ b. rw b) (λ b. rw b (none m))
+  begun_is_empty (Some t) name m = none m
 
-  field_is_empty : (o : Maybe Info) (m : ℕ) → log_field o log m ≡ []
-  field_is_empty nothing m = none m
-  field_is_empty (just x) m = begun_is_empty x.text x.name m
+  field_is_empty : (o : Option Info) (m : ℕ) → log_field o log m ≡ []
+  field_is_empty None m = none m
+  field_is_empty (Some x) m = begun_is_empty x.text x.name m
 
-  change_types_nothing : (h : History) → h.input.focus ≡ nothing → (c : Change) (m : ℕ) → logged_change h c log m ≡ []
+  change_types_nothing : (h : History) → h.input.focus ≡ None → (c : Change) (m : ℕ) → logged_change h c log m ≡ []
   change_types_nothing h e (remove d) m = none m
   change_types_nothing h e (set_style d y) m = none m
   change_types_nothing h e (set_state_table d table) m = none m
@@ -89,7 +89,7 @@ module _ (log : Log) (none : (m : ℕ) → log m ≡ []) where
   change_types_nothing h e (handle v) m = key_falls_nowhere h.input.focus e v m
   change_types_nothing h e next_output m = none m
 
-  call_types_nothing : (h : History) → h.input.focus ≡ nothing → (c : Call) (m : ℕ) → logged h c log m ≡ []
+  call_types_nothing : (h : History) → h.input.focus ≡ None → (c : Call) (m : ℕ) → logged h c log m ≡ []
   unfolding logged
   call_types_nothing h e (insert d) m = none m
   call_types_nothing h e (change c) m = change_types_nothing h e c m

@@ -1,6 +1,7 @@
 -- What holds between the tree and the history after k calls, in four parts: nodes, styling, input, waiting outputs. Each part reads its own share of the
 -- tree's state, and a law for each says that a call may change that share alone. So a call's proof is about what it changes, and a field more of the
 -- state belongs to one part. Assumes nothing.
+use Rattle.std.specs.Prelude.{Option, None, Some}
 use mathlib.Core.Path.{◌≡◌, refl, sym, ap, subst, ◌∙◌}
 use mathlib.Core.Bool.{Bool, true, false, cond}
 use mathlib.Core.List.{List}
@@ -9,9 +10,8 @@ use native.Mathlib.Omega.{arith}
 use lib.ListN.{length, get_or, take, drop, length-append, length-drop}
 use Rattle.field.specs.Text.{Text}
 use Rattle.field.specs.declared.NodeId.{NodeId}
-use Rattle.field.specs.declared.MaybeId.{MaybeId}
 use Rattle.field.specs.declared.Field.{Field}
-use Rattle.arithmetic.specs.Tests.{occ, Maybe, nothing, just}
+use Rattle.arithmetic.specs.Tests.{occ}
 use Rattle.tree.specs.Slots.{Slots, at, nobody}
 use Rattle.tree.specs.Styles.{fresh_state, state_at}
 use Rattle.tree.specs.Forest.{Forest, map_f}
@@ -33,12 +33,12 @@ use Rattle.tree.proofs.FieldParts.{retexted, texts_keep_styling, texts_keep_nami
 use Rattle.tree.specs.History.{History, Styling, Input, with_styling, with_names, with_input, with_tree, id_named}
 
 -- a name that was made
-abbrev pub NameIn : List NodeId → Maybe ℕ → Type 0
-NameIn named nothing = Unit {0}
-NameIn named (just m) = m < length named
+abbrev pub NameIn : List NodeId → Option ℕ → Type 0
+NameIn named None = Unit {0}
+NameIn named (Some m) = m < length named
 
 -- an id, or none, that the history has by a name
-pub record NamedBy (named : List NodeId) (o : MaybeId) (m : Maybe ℕ) : Type 0 where
+pub record NamedBy (named : List NodeId) (o : Option NodeId) (m : Option ℕ) : Type 0 where
   pub is_the_id : o ≡ id_named named m
   pub is_in : NameIn named m
 
@@ -252,7 +252,7 @@ module _ {k : ℕ} {u : Ui} {h : History} (v : Inv k u h) where
   }
 
   -- other fields, and other texts at some nodes
-  pub with_texts : (b : ℕ → ℕ → Info → Bool) (y : Info → Maybe Text) (fs : List Field) → Texts u.slots fs (map_f (retexted b y) h.tree)
+  pub with_texts : (b : ℕ → ℕ → Info → Bool) (y : Info → Option Text) (fs : List Field) → Texts u.slots fs (map_f (retexted b y) h.tree)
       → Inv k (with_fields u fs) (with_tree h (map_f (retexted b y) h.tree) h.styling.dirty)
   unfolding with_fields
   with_texts b y fs x = record {

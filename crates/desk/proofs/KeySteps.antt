@@ -1,4 +1,5 @@
 -- A key edits the field of the node in focus, and the text of the node that the history's focus names: the same node, if it lives. Assumes nothing.
+use Rattle.std.specs.Prelude.{Option, Some, None}
 use mathlib.Core.Path.{◌≡◌, refl, sym, subst, ◌∙◌}
 use mathlib.Core.Bool.{true, ◌&&◌, cond}
 use mathlib.Core.List.{List}
@@ -8,13 +9,10 @@ use lib.ListN.{length, get_or}
 use Rattle.text.specs.Utf8.{is_scalar, encoded}
 use Rattle.field.specs.Fields.{in_range, field_ok, moved, cut_out, put_in, edited_in, edited, inserted, text_of}
 use Rattle.field.specs.declared.NodeId.{NodeId}
-use Rattle.field.specs.declared.MaybeId.{MaybeId}
-use Rattle.field.specs.declared.MaybeId.TheVariants.{Present}
 use Rattle.field.specs.declared.Field.{Field}
 use Rattle.field.specs.declared.EditOp.{EditOp}
 use Rattle.field.specs.declared.EditOp.TheVariants.{Backspace, Delete, Left, Right, Home, End}
 use Rattle.field.proofs.Laws.{edit_keeps_the_rules, edit_keeps_64_bytes, edit_is_the_texts, insert_keeps_the_rules, insert_keeps_64_bytes, insert_is_the_texts}
-use Rattle.arithmetic.specs.Tests.{Maybe, nothing, just}
 use Rattle.tree.specs.Slots.{same_id, nobody}
 use Rattle.tree.specs.Forest.{Forest, nil, node, has_id, map_f}
 use Rattle.tree.specs.Nodes.{Info, with_field, is_named, change_named}
@@ -57,7 +55,7 @@ key_keeps_rules (Op op) f h l = (edit_keeps_the_rules f h l op, edit_keeps_64_by
 
 -- ---- the invariant with other texts
 
-module _ (k : ℕ) (u : Ui) (h : History) (v : Inv k u h) (key : Key) (fo : Maybe ℕ) where
+module _ (k : ℕ) (u : Ui) (h : History) (v : Inv k u h) (key : Key) (fo : Option ℕ) where
   abbrev named_text : Forest Info
   named_text = map_f (retexted (λ i g x. is_named fo x) (λ x. map_maybe (key_text key) x.text)) h.tree
 
@@ -73,17 +71,17 @@ module _ (k : ℕ) (u : Ui) (h : History) (v : Inv k u h) (key : Key) (fo : Mayb
   unfolding with_interaction with_fields
   same_tree x = with_keyed u.fields u.interaction v.input x
 
-  module _ (m : ℕ) (b : m < length h.named) (e : fo ≡ just m) where
+  module _ (m : ℕ) (b : m < length h.named) (e : fo ≡ Some m) where
     abbrev d : NodeId
     d = get_or h.named m nobody
 
     is_d : AllF (λ i g x. same_id d (record { index = i; generation = g }) ≡ is_named fo x) h.tree
-    is_d = rw e (ids_say_the_names u.slots h.tree h.named v.nodes.naming (Present d) (just m) (record { is_the_id = refl; is_in = b }))
+    is_d = rw e (ids_say_the_names u.slots h.tree h.named v.nodes.naming (Some d) (Some m) (record { is_the_id = refl; is_in = b }))
 
-    edits : (mf : Maybe Field) → field_of d u.fields ≡ mf → Inv k (edit_field u d key mf) after_key
-    edits nothing q =
+    edits : (mf : Option Field) → field_of d u.fields ≡ mf → Inv k (edit_field u d key mf) after_key
+    edits None q =
         same_tree (no_edit_without_a_field u.slots h.tree u.fields v.nodes.texts d (keyed_field key) (key_text key) (λ i g x. is_named fo x) is_d (map_maybe (key_text key)) refl (λ z. refl) q)
-    edits (just f) q =
+    edits (Some f) q =
         bool_cases (has_changed f (keyed_field key f))
         (λ c. rw c (with_keyed (change_first (owns d) (keyed_field key) u.fields) (folded_by u.interaction (edit_fold u d key)) (record { pointer_is = v.input.pointer_is; pressed = v.input.pressed; focus = v.input.focus }) edited_texts))
         (λ c. rw c (with_keyed (change_first (owns d) (keyed_field key) u.fields) u.interaction v.input edited_texts))
@@ -93,7 +91,7 @@ module _ (k : ℕ) (u : Ui) (h : History) (v : Inv k u h) (key : Key) (fo : Mayb
             edit_keeps_texts u.slots h.tree u.fields v.nodes.texts d (keyed_field key) (key_text key) (λ i g x. is_named fo x) is_d (map_maybe (key_text key)) refl (λ z. refl)
             (key_keeps_owner key) (key_keeps_rules key)
 
-    into_the_node : Inv k (edit_focused u key (Present d)) after_key
+    into_the_node : Inv k (edit_focused u key (Some d)) after_key
     into_the_node =
         let l = live_just_where_a_node_has_it v.nodes.links.rel d in
         bool_cases (has_id d h.tree)
@@ -109,12 +107,12 @@ of_all_nodes P h nil = tt
 of_all_nodes P h (node i g x cs sib) = (h i g x, of_all_nodes P h cs, of_all_nodes P h sib)
 
 module _ {k : ℕ} {u : Ui} {h : History} (v : Inv k u h) (key : Key) where
-  key_into : (fo : Maybe ℕ) → NameIn h.named fo → Inv k (edit_focused u key (id_named h.named fo)) (with_tree h (change_named fo (λ x. with_field x (map_maybe (key_text key) x.text)) h.tree) h.styling.dirty)
-  key_into nothing n =
+  key_into : (fo : Option ℕ) → NameIn h.named fo → Inv k (edit_focused u key (id_named h.named fo)) (with_tree h (change_named fo (λ x. with_field x (map_maybe (key_text key) x.text)) h.tree) h.styling.dirty)
+  key_into None n =
       subst (λ (t : Forest Info). Inv k u (with_tree h t h.styling.dirty))
-      (sym (unchanged_at_each_node (λ i g x. cond (is_named nothing x) (with_field x (map_maybe (key_text key) x.text)) x) h.tree (of_all_nodes _ (λ i g x. refl) h.tree))) v
-  key_into (just m) n = into_the_node k u h v key (just m) m n refl
+      (sym (unchanged_at_each_node (λ i g x. cond (is_named None x) (with_field x (map_maybe (key_text key) x.text)) x) h.tree (of_all_nodes _ (λ i g x. refl) h.tree))) v
+  key_into (Some m) n = into_the_node k u h v key (Some m) m n refl
 
   pub key_agrees : Inv k (edit_focused u key u.interaction.focus) (typed_into h key)
   key_agrees =
-      subst (λ (o : MaybeId). Inv k (edit_focused u key o) (typed_into h key)) (sym v.input.focus.is_the_id) (key_into h.input.focus v.input.focus.is_in)
+      subst (λ (o : Option NodeId). Inv k (edit_focused u key o) (typed_into h key)) (sym v.input.focus.is_the_id) (key_into h.input.focus v.input.focus.is_in)

@@ -1,4 +1,5 @@
 -- An id means a node just where the name does: every node has the id at the place of its name, and no two such ids are equal. Assumes nothing.
+use Rattle.std.specs.Prelude.{Option, Some, None}
 use mathlib.Core.Path.{◌≡◌, refl, sym, ap, subst, ◌∙◌}
 use mathlib.Core.Bool.{true, false, cond}
 use mathlib.Core.List.{List}
@@ -6,9 +7,6 @@ use Prim.Native.Nat.{ℕ, ◌+◌, ◌<◌}
 use native.Mathlib.Omega.{arith}
 use lib.ListN.{length, get_or}
 use Rattle.field.specs.declared.NodeId.{NodeId}
-use Rattle.field.specs.declared.MaybeId.{MaybeId}
-use Rattle.field.specs.declared.MaybeId.TheVariants.{Present}
-use Rattle.arithmetic.specs.Tests.{Maybe, nothing, just}
 use Rattle.tree.specs.Slots.{Slots, at, id_at, nobody, same_id, is_id}
 use Rattle.tree.specs.States.{bits_of}
 use Rattle.tree.specs.Wearing.{bits_at}
@@ -42,29 +40,29 @@ id_cases d e f g =
 
 module _ (s : Slots) (t : Forest Info) (named : List NodeId) (n : Naming s t named) where
   -- of a node, the id says what the name says
-  id_says_the_name : (m : Maybe ℕ) → NameIn named m → (i g : ℕ) (x : Info) → OwnName named i g x
+  id_says_the_name : (m : Option ℕ) → NameIn named m → (i g : ℕ) (x : Info) → OwnName named i g x
       → is_id (id_named named m) (record { index = i; generation = g }) ≡ is_named m x
-  id_says_the_name nothing h i g x own = refl
-  id_says_the_name (just m) h i g x own =
+  id_says_the_name None h i g x own = refl
+  id_says_the_name (Some m) h i g x own =
       eq_cases m x.name
       (λ e r _. equal_ids_are_the_same (get_or named m nobody) (record { index = i; generation = g }) (ap (λ (k : ℕ). get_or named k nobody) e ∙ own.1) ∙ sym r)
       (λ e r _. id_cases (get_or named m nobody) (record { index = i; generation = g })
       (λ q _. absurd (e (n.apart m x.name h own.0 (q ∙ sym own.1))))
       (λ _ q. q ∙ sym r))
 
-  pub ids_say_the_names : (o : MaybeId) (m : Maybe ℕ) → NamedBy named o m → AllF (λ i g x. is_id o (record { index = i; generation = g }) ≡ is_named m x) t
+  pub ids_say_the_names : (o : Option NodeId) (m : Option ℕ) → NamedBy named o m → AllF (λ i g x. is_id o (record { index = i; generation = g }) ≡ is_named m x) t
   ids_say_the_names o m h =
       all_map (OwnName named)
       (λ i g x. is_id o (record { index = i; generation = g }) ≡ is_named m x) t
-      (λ i g x _ own. ap (λ (p : MaybeId). is_id p (record { index = i; generation = g })) h.is_the_id ∙ id_says_the_name m h.is_in i g x own) n.own
+      (λ i g x _ own. ap (λ (p : Option NodeId). is_id p (record { index = i; generation = g })) h.is_the_id ∙ id_says_the_name m h.is_in i g x own) n.own
 
   -- no id that was given is a dead slot's next
-  no_id_of_a_dead_slot : (o : MaybeId) (m : Maybe ℕ) → NamedBy named o m → (j : ℕ) → cnt j t ≡ 0 → is_id o (id_at s j) ≡ false
-  no_id_of_a_dead_slot o m h j c = ap (λ (p : MaybeId). is_id p (id_at s j)) h.is_the_id ∙ go m h.is_in
+  no_id_of_a_dead_slot : (o : Option NodeId) (m : Option ℕ) → NamedBy named o m → (j : ℕ) → cnt j t ≡ 0 → is_id o (id_at s j) ≡ false
+  no_id_of_a_dead_slot o m h j c = ap (λ (p : Option NodeId). is_id p (id_at s j)) h.is_the_id ∙ go m h.is_in
     where
-      go : (m : Maybe ℕ) → NameIn named m → is_id (id_named named m) (id_at s j) ≡ false
-      go nothing b = refl
-      go (just m) b =
+      go : (m : Option ℕ) → NameIn named m → is_id (id_named named m) (id_at s j) ≡ false
+      go None b = refl
+      go (Some m) b =
           let d = get_or named m nobody in
           id_cases d (id_at s j)
           (λ q _.
@@ -76,24 +74,24 @@ module _ (s : Slots) (t : Forest Info) (named : List NodeId) (n : Naming s t nam
           (λ _ q. q)
 
   -- the node that a hit names is the one that the id names
-  pub hit_is_named : (o : MaybeId) (m : Maybe ℕ) → Names t o m → NamedBy named o m
+  pub hit_is_named : (o : Option NodeId) (m : Option ℕ) → Names t o m → NamedBy named o m
   hit_is_named _ _ neither = record { is_the_id = refl; is_in = tt }
   hit_is_named _ _ (one_node {d} {m} w) =
       let own = w.known (OwnName named) n.own in
       let e : w.load.name ≡ m = w.named in
       record {
-        is_the_id = ap Present (sym (ap (λ (k : ℕ). get_or named k nobody) (sym e) ∙ own.1));
+        is_the_id = ap Some (sym (ap (λ (k : ℕ). get_or named k nobody) (sym e) ∙ own.1));
         is_in = subst (λ (k : ℕ). k < length named) e own.0;
       }
 
 -- ---- bits
 
-module _ (k : ℕ) (u : Ui) (t : Forest Info) (named : List NodeId) (l : Links k u t) (n : Naming u.slots t named) (o : MaybeId) (hover pressed focus : Maybe ℕ)
+module _ (k : ℕ) (u : Ui) (t : Forest Info) (named : List NodeId) (l : Links k u t) (n : Naming u.slots t named) (o : Option NodeId) (hover pressed focus : Option ℕ)
     (hn : NamedBy named o hover) (pn : NamedBy named u.interaction.pressed pressed) (fn : NamedBy named u.interaction.focus focus) where
   pub bits_by_names : AllF (λ i g x. bits_at u o i ≡ bits_for hover pressed focus x) t
   unfolding bits_at bits_for
   bits_by_names =
-      let I : MaybeId → Maybe ℕ → ℕ → ℕ → Info → Type 0 = λ p m i g x. is_id p (record { index = i; generation = g }) ≡ is_named m x in
+      let I : Option NodeId → Option ℕ → ℕ → ℕ → Info → Type 0 = λ p m i g x. is_id p (record { index = i; generation = g }) ≡ is_named m x in
       let G : ℕ → ℕ → Info → Type 0 = λ i g x. ((at u.slots i).generation ≡ g) × ((at u.slots i).live ≡ true) in
       let p = u.interaction.pressed in
       let f = u.interaction.focus in

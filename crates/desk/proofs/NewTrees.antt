@@ -1,4 +1,5 @@
 -- The new tree of either start is not broken, and the two share all but the pointer. So no call after a start is refused by 1, however many there are. Assumes nothing.
+use Rattle.std.specs.Prelude.{Option}
 use mathlib.Core.Path.{◌≡◌, refl, sym, subst, ◌∙◌}
 use mathlib.Core.Bool.{Bool, true, false}
 use mathlib.Core.List.{List, [], ◌∷◌}
@@ -12,7 +13,7 @@ use Rattle.tree.specs.Broken.{broken}
 use Rattle.tree.specs.Trees.{with_interaction}
 use Rattle.tree.specs.Calls as tree
 use Rattle.tree.specs.Calls.{fresh}
-use Rattle.tree.specs.Types.{StateSlot, Pointer}
+use Rattle.tree.specs.Types.{StateSlot, Pixel}
 use Rattle.tree.specs.Pointers.{first_pointer}
 use Rattle.tree.specs.History.{Call, limit_from}
 use Rattle.tree.specs.declared.Ui.{Ui}
@@ -31,7 +32,7 @@ all_of_one : {A : Type 0} (p : A → Bool) (x : A) (n : ℕ) → p x ≡ true �
 all_of_one p x zero e = refl
 all_of_one p x (suc n) e = rw e (all_of_one p x n e)
 
-fresh_tables : (p : Pointer) (n : ℕ) → all (λ (s : StateSlot). same (length s.table) 16) (fresh p n).states ≡ true
+fresh_tables : (p : Option Pixel) (n : ℕ) → all (λ (s : StateSlot). same (length s.table) 16) (fresh p n).states ≡ true
 unfolding fresh
 fresh_tables p n = all_of_one (λ (s : StateSlot). same (length s.table) 16) fresh_state 128 (same_refl 16)
 

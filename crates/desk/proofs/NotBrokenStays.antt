@@ -1,4 +1,5 @@
 -- Every call keeps a tree that is not broken, and so does every list of calls. Assumes nothing.
+use Rattle.std.specs.Prelude.{None, Option, Some}
 use mathlib.Core.Path.{◌≡◌, refl, sym, ap, subst, ◌∙◌}
 use mathlib.Core.Bool.{Bool, true, false, ◌&&◌, not}
 use mathlib.Core.List.{List, [], ◌∷◌, ◌++◌}
@@ -10,10 +11,8 @@ use lib.ListN.{length, length-append}
 use lib.Seq.{length-take-le, take_all}
 use Rattle.field.specs.Fields.{field_ok}
 use Rattle.field.specs.declared.NodeId.{NodeId}
-use Rattle.field.specs.declared.MaybeId.{MaybeId}
-use Rattle.field.specs.declared.MaybeId.TheVariants.{Absent, Present}
 use Rattle.field.specs.declared.Field.{Field}
-use Rattle.arithmetic.specs.Tests.{same, all, Maybe, nothing, just}
+use Rattle.arithmetic.specs.Tests.{same, all}
 use Rattle.arithmetic.proofs.BoolLaws.{pick_of, and_left, and_right}
 use Rattle.arithmetic.proofs.TestLaws.{eq_cases, same_yes, same_is}
 use Rattle.tree.specs.Slots.{NIL, is_live, nobody, is_id}
@@ -120,24 +119,24 @@ module _ {u : Ui} (k : Kept u) where
       (λ e. let f = ltb-true u.output_count _ e in another_interaction_keeps_the_tree (other_outputs_keep_the_tree k (waiting_of u ++ d ∷ []) (omega arith)) _)
       (λ e. another_interaction_keeps_the_tree k _)
 
-  release_keeps : (hit pressed : MaybeId) → Kept (released_on u hit pressed)
-  release_keeps hit Absent = another_interaction_keeps_the_tree k _
-  release_keeps hit (Present d) = pick_of Kept (is_id hit d) (λ _. activation_keeps d) (λ _. another_interaction_keeps_the_tree k _)
+  release_keeps : (hit pressed : Option NodeId) → Kept (released_on u hit pressed)
+  release_keeps hit None = another_interaction_keeps_the_tree k _
+  release_keeps hit (Some d) = pick_of Kept (is_id hit d) (λ _. activation_keeps d) (λ _. another_interaction_keeps_the_tree k _)
 
-  edit_keeps : (d : NodeId) (key : Key) (m : Maybe Field) → Kept (edit_field u d key m)
-  edit_keeps d key nothing = k
-  edit_keeps d key (just f) =
+  edit_keeps : (d : NodeId) (key : Key) (m : Option Field) → Kept (edit_field u d key m)
+  edit_keeps d key None = k
+  edit_keeps d key (Some f) =
       another_interaction_keeps_the_tree (other_fields_keep_the_tree k (change_first (owns d) (keyed_field key) u.fields) (record {
         eight = an_edit_keeps_the_number_of_fields (owns d) (keyed_field key) u.fields ∙ k.fields.eight;
         ruled = an_edit_keeps_of_each FieldKept (owns d) (keyed_field key) (λ g r. let q = key_keeps_rules key g r.0 r.1 in (q.0, q.1)) u.fields k.fields.ruled;
         owners = an_edit_keeps_owners_apart (keyed_field key) (key_keeps_owner key) d u.fields k.fields.owners;
       })) _
 
-  key_keeps : (key : Key) (focus : MaybeId) → Kept (edit_focused u key focus)
-  key_keeps key Absent = k
-  key_keeps key (Present d) = pick_of Kept (is_live (limit_of u) u.slots d) (λ _. edit_keeps d key (field_of d u.fields)) (λ _. k)
+  key_keeps : (key : Key) (focus : Option NodeId) → Kept (edit_focused u key focus)
+  key_keeps key None = k
+  key_keeps key (Some d) = pick_of Kept (is_live (limit_of u) u.slots d) (λ _. edit_keeps d key (field_of d u.fields)) (λ _. k)
 
-  event_keeps : (hit : MaybeId) (e : UiEvent) → Kept (applied_event u hit e)
+  event_keeps : (hit : Option NodeId) (e : UiEvent) → Kept (applied_event u hit e)
   event_keeps hit (PointerMoved x y) = another_interaction_keeps_the_tree k _
   event_keeps hit PointerPressed = another_interaction_keeps_the_tree k _
   event_keeps hit PointerReleased = release_keeps hit u.interaction.pressed
@@ -167,13 +166,13 @@ module _ {u : Ui} (k : Kept u) where
       (λ _ s _. rw s (the_same_tree_is_kept k))
       (λ z s _. rw s record { next_kept = a_removal_keeps_the_tree k d live z }))
 
-  field_keeps : (d : NodeId) → is_live (limit_of u) u.slots d ≡ true → (m : Maybe Field) → field_of d u.fields ≡ m → Keeps (take_field u d m)
-  field_keeps d live (just f) e = the_same_tree_is_kept k
-  field_keeps d live nothing e = go (first_field vacant (reclaimed (limit_of u) u.slots u.fields))
+  field_keeps : (d : NodeId) → is_live (limit_of u) u.slots d ≡ true → (m : Option Field) → field_of d u.fields ≡ m → Keeps (take_field u d m)
+  field_keeps d live (Some f) e = the_same_tree_is_kept k
+  field_keeps d live None e = go (first_field vacant (reclaimed (limit_of u) u.slots u.fields))
     where
-      go : (m : Maybe Field) → Keeps (take_vacant u d m)
-      go nothing = the_same_tree_is_kept k
-      go (just f) = record { next_kept = a_field_made_keeps_the_tree k d live e }
+      go : (m : Option Field) → Keeps (take_vacant u d m)
+      go None = the_same_tree_is_kept k
+      go (Some f) = record { next_kept = a_field_made_keeps_the_tree k d live e }
 
   output_keeps : (ds : List NodeId) → waiting_of u ≡ ds → Keeps (take_oldest u ds)
   output_keeps [] e = the_same_tree_is_kept k
@@ -197,7 +196,7 @@ module _ {u : Ui} (k : Kept u) where
       (guarded_keeps k {A = ℕ} 0 (pick_of Keeps (not u.dirty && same_view u.solved_for v) (λ _. the_same_tree_is_kept k)
       (λ _. record { next_kept = a_pass_keeps_the_tree k v }))).next_kept
   change_keeps (handle e) m = (guarded_keeps k {A = ℕ} 0 (record { next_kept = a_refresh_keeps_the_tree (event_keeps k (hit_of u) e) _ })).next_kept
-  change_keeps next_output m = (guarded_keeps k Absent (output_keeps (waiting_of u) refl)).next_kept
+  change_keeps next_output m = (guarded_keeps k None (output_keeps (waiting_of u) refl)).next_kept
 
   pub call_keeps : (c : Call) → Machine c → Kept (step u c).next
   unfolding step

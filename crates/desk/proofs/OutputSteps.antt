@@ -1,11 +1,12 @@
 -- The waiting outputs in their array: one more behind them, and the oldest gone. Assumes nothing.
-use Prim.Native.Nat.{ℕ, zero, suc, ◌+◌, ◌<◌, ◌≤◌}
+use Prim.Native.Nat.{ℕ, zero, suc, ◌+◌, ◌-◌, ◌<◌, ◌≤◌}
 use mathlib.Core.Path.{◌≡◌, refl, sym, ap, ◌∙◌}
 use mathlib.Core.List.{List, [], ◌∷◌, ◌++◌, append_assoc}
 use native.Mathlib.Numerals.{add-one}
 use native.Mathlib.Omega.{arith}
 use lib.ListN.{length, get_or, set, take, drop, length-append}
-use lib.Seq.{drop-cons, take-suc, set_at, set_split, length-take-le}
+use lib.Seq.{set_split, length-take-le}
+use Rattle.std.specs.List.{copy_within}
 use Rattle.field.specs.declared.NodeId.{NodeId}
 use Rattle.arithmetic.specs.Tests.{over}
 
@@ -19,29 +20,15 @@ queued_last l k d h =
     ∙ sym (append_assoc (take k l) (d ∷ []) (drop (suc k) l))
     ∙ ap (λ (n : ℕ). (take k l ++ d ∷ []) ++ drop n l) (sym (one_more_waits l k (omega arith) d ∙ add-one k))
 
--- ---- one less: the first j moved up
-unfoldable pub moved_up : List NodeId → ℕ → List NodeId
-moved_up ids j = take j (drop 1 ids) ++ drop j ids
-
-pub nothing_moved : (ids : List NodeId) → ids ≡ moved_up ids 0
-unfolding moved_up
-nothing_moved ids = refl
-
-pub one_more_moved : (ids : List NodeId) (j : ℕ) (e : NodeId) {out : List NodeId} → j + 1 < length ids → out ≡ moved_up ids j → set out j (get_or ids (j + 1) e) ≡ moved_up ids (j + 1)
-unfolding moved_up
-one_more_moved [] j e h q = absurd (omega arith)
-one_more_moved (x ∷ xs) j e h q =
-    let h' : j < length (x ∷ xs) = omega arith in
-    let h'' : j < length xs = omega arith in
-    rw (q, add-one, drop-cons (x ∷ xs) j e h', set_at (take j xs) (get_or (x ∷ xs) j e) (drop (suc j) (x ∷ xs)) (get_or xs j e) j (length-take-le j xs (omega arith)), take-suc xs j e h'', append_assoc)
-
-pub all_moved : (ids : List NodeId) (j count : ℕ) {out : List NodeId} → count ≡ j + 1 → count ≤ length ids → out ≡ moved_up ids j
-    → (out ≡ over (drop 1 (take count ids)) ids) × (length (drop 1 (take count ids)) ≡ j)
-unfolding moved_up
-all_moved [] j count c h q = absurd (omega arith)
-all_moved (x ∷ xs) j count c h q =
-    let k = length-take-le j xs (omega arith) in
-    (rw (q, c, add-one, k), rw (c, add-one) k)
+-- ---- one less
+pub moved_up : (ids : List NodeId) (count : ℕ) → 1 ≤ count → count ≤ length ids
+    → (copy_within ids 1 count 0 ≡ over (drop 1 (take count ids)) ids) × (length (drop 1 (take count ids)) ≡ count - 1)
+moved_up [] count h k = absurd (omega arith)
+moved_up (x ∷ xs) zero h k = absurd (omega arith)
+moved_up (x ∷ xs) (suc n) h k =
+    let e : length (take n xs) ≡ n = length-take-le n xs (omega arith) in
+    let m : suc n - 1 ≡ n = omega arith in
+    (let z : 0 + n ≡ n = omega arith in rw (e, m, z), rw m e)
 
 -- the oldest, where one waits
 pub the_front : (ids : List NodeId) (count : ℕ) (e : NodeId) → 1 ≤ count → 1 ≤ length ids → take count ids ≡ get_or ids 0 e ∷ drop 1 (take count ids)

@@ -1,9 +1,10 @@
 -- What a read answers is what the history says, by the laws of the tree's parts. Assumes nothing.
+use Rattle.field.specs.declared.NodeId.{NodeId}
+use Rattle.std.specs.Prelude.{Option}
 use mathlib.Core.Path.{◌≡◌, ap}
 use mathlib.Core.Bool.{Bool}
 use Prim.Native.Nat.{ℕ}
 use Rattle.text.specs.Refusal.{Answer}
-use Rattle.field.specs.declared.MaybeId.{MaybeId}
 use Rattle.arithmetic.specs.Tests.{same}
 use Rattle.tree.specs.Calls.{Outcome}
 use Rattle.tree.specs.declared.Ui.{Ui}
@@ -46,8 +47,8 @@ module _ {k : ℕ} {u : Ui} {h : History} (v : Inv k u h) where
   asked_as_said (metres d) = ap (λ (a : Answer ℕ). a.number) (agrees.metres_are d)
   asked_as_said (rect d) = ap (λ (a : Answer Rect). a.number) (agrees.rect_is d)
   asked_as_said (live d) = ap (λ (a : Answer Bool). a.number) (agrees.live_is d)
-  asked_as_said (first_child d) = ap (λ (a : Answer MaybeId). a.number) (agrees.first_child_is d)
-  asked_as_said (next_sibling d) = ap (λ (a : Answer MaybeId). a.number) (agrees.next_sibling_is d)
+  asked_as_said (first_child d) = ap (λ (a : Answer (Option NodeId)). a.number) (agrees.first_child_is d)
+  asked_as_said (next_sibling d) = ap (λ (a : Answer (Option NodeId)). a.number) (agrees.next_sibling_is d)
   asked_as_said (absorb s) = ap (λ (o : Outcome ℕ). o.answer.number) (guarded_is v 0 _)
 
   pub asks : (q : Question) → Kept k u h (ask q)

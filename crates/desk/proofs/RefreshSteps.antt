@@ -1,9 +1,9 @@
 -- A refresh of the tree is the history's: the node under the pointer is the same, so every node's bits are. Assumes nothing.
+use Rattle.std.specs.Prelude.{Option, None}
 use mathlib.Core.Path.{refl, ap₂, subst, ◌∙◌}
 use mathlib.Core.Bool.{Bool, ◌||◌}
 use mathlib.Core.List.{List}
 use Prim.Native.Nat.{ℕ}
-use Rattle.arithmetic.specs.Tests.{nothing}
 use Rattle.tree.specs.Wearing.{refreshed}
 use Rattle.tree.specs.Forest.{map_f, any_f}
 use Rattle.tree.specs.Nodes.{Info, wears, swaps, hit_f}
@@ -11,7 +11,7 @@ use Rattle.tree.specs.Pointers.{under_pointer}
 use Rattle.tree.specs.Input.{hit_under}
 use Rattle.tree.specs.Trees.{with_styles, with_stated}
 use Rattle.tree.specs.declared.Ui.{Ui}
-use Rattle.tree.specs.Types.{Pointer, StatePatch}
+use Rattle.tree.specs.Types.{StatePatch, Pixel}
 use Rattle.tree.proofs.HitLaws.{Names, the_pointer_names_the_forests_node}
 use Rattle.tree.proofs.Relation.{Styled}
 use Rattle.tree.proofs.StylingParts.{refresh_keeps_styling, refresh_dirties}
@@ -26,7 +26,7 @@ module _ {k : ℕ} {u : Ui} {h : History} (v : Inv k u h) where
   unfolding hit_of
   hits_agree =
       hit_is_named u.slots h.tree h.named v.nodes.naming (hit_of u) (hit_name h)
-      (subst (λ (p : Pointer). Names h.tree (hit_under u u.interaction.pointer) (under_pointer nothing (λ pixel. hit_f pixel nothing h.tree) p)) v.input.pointer_is
+      (subst (λ (p : Option Pixel). Names h.tree (hit_under u u.interaction.pointer) (under_pointer None (λ pixel. hit_f pixel None h.tree) p)) v.input.pointer_is
       (the_pointer_names_the_forests_node u.slots u.layout u.interaction.pointer v.nodes.links.rel v.styling.styled.boxed))
 
   pub refresh_agrees : Inv k (refreshed u (hit_of u)) (refresh h)

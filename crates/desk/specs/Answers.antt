@@ -1,16 +1,9 @@
--- The desk's own kinds of answer as document 01's number and values. Metres are answered as the field crate does.
-use Rattle.std.specs.Prelude.{ℕ}
-use Rattle.text.specs.Refusal.{Answer, accepted, refused}
-use Rattle.field.specs.declared.MaybeId.{MaybeId}
+-- The answer of a taken output as document 01's number and value, and the next tree.
+use Rattle.field.specs.declared.NodeId.{NodeId}
+use Rattle.std.specs.Prelude.{Option, None}
+use Rattle.tree.specs.Answers.{reply_of}
 use Rattle.tree.specs.Calls.{Outcome}
-use Rattle.tree.specs.Answers.{neighbour_of}
-use Rattle.desk.specs.declared.Taken.{Taken}
-use Rattle.desk.specs.declared.Fingerprint.{Fingerprint}
-use Rattle.desk.specs.declared.Fingerprint.TheVariants.{State, Refused}
+use Rattle.tree.specs.declared.answers.Reply.{Reply}
 
-abbrev pub taken_of : Taken → Outcome MaybeId
-taken_of r = record { next = r.tree; answer = neighbour_of r.answer }
-
-abbrev pub fingerprint_of : Fingerprint → Answer ℕ
-fingerprint_of (State h) = accepted h
-fingerprint_of (Refused word) = refused word 0
+abbrev pub taken_of : Reply (Option NodeId) → Outcome (Option NodeId)
+taken_of r = reply_of None r

@@ -1,6 +1,6 @@
 -- What holds of every tree whatsoever and of every call, without a history. Proved in proofs/CallLaws.antt, NotBrokenStays.antt, NewTrees.antt
 -- and PassBoxes.antt.
-use Rattle.std.specs.Prelude.{ℕ, ◌≡◌, Bool, true, false, ◌||◌, not, List, map, length}
+use Rattle.std.specs.Prelude.{ℕ, ◌≡◌, Bool, true, false, ◌||◌, not, List, map, length, Option}
 use Rattle.field.specs.declared.NodeId.{NodeId}
 use Rattle.field.specs.declared.Field.{Field}
 use Rattle.arithmetic.specs.Tests.{same, all}
@@ -8,7 +8,7 @@ use Rattle.tree.specs.Broken.{broken}
 use Rattle.tree.specs.Trees.{with_styles, with_interaction}
 use Rattle.tree.specs.Layout.{same_view}
 use Rattle.tree.specs.Calls as tree
-use Rattle.tree.specs.Types.{Style, StateSlot, LayoutSlot, Viewport, Pointer, StartKind}
+use Rattle.tree.specs.Types.{Style, StateSlot, LayoutSlot, Viewport, StartKind, Pixel}
 use Rattle.tree.specs.Pointers.{first_pointer}
 use Rattle.boxes.specs.declared.StartKind.TheVariants.{New, AtOrigin}
 use Rattle.tree.specs.declared.Ui.{Ui}
@@ -17,7 +17,7 @@ use Rattle.desk.specs.Events.{pointed_at}
 use Rattle.desk.specs.Demand3.{step, run, Machines}
 
 -- The tree with its pointer elsewhere.
-abbrev pub placed_at : Ui → Pointer → Ui
+abbrev pub placed_at : Ui → Option Pixel → Ui
 placed_at u pointer = with_interaction u (pointed_at u.interaction pointer)
 
 -- A refused call gives back the tree that it got.

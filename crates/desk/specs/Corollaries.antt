@@ -1,12 +1,11 @@
 -- What follows from demand 3, each in words that a planner can check. Proved in proofs/Corollaries.antt.
-use Rattle.std.specs.Prelude.{◌≡◌, Bool, true, false, not, List, [], ◌∷◌, ℕ, ◌<◌, ◌^◌, length}
+use Rattle.std.specs.Prelude.{◌≡◌, Bool, true, false, not, List, [], ◌∷◌, ℕ, ◌<◌, ◌^◌, length, None, Some}
 use Rattle.text.specs.Refusal.{accepted, refused}
 use Rattle.text.specs.declared.refusal.Refusal.TheVariants.{Empty}
 use Rattle.field.specs.Text.{bytes_of, caret_of}
 use Rattle.field.specs.Metres.{metres_of}
 use Rattle.field.specs.declared.NodeId.{NodeId}
-use Rattle.field.specs.declared.MaybeId.TheVariants.{Absent}
-use Rattle.arithmetic.specs.Tests.{just, all}
+use Rattle.arithmetic.specs.Tests.{all}
 use Rattle.tree.specs.Fields.{no_text}
 use Rattle.tree.specs.Forest.{find}
 use Rattle.tree.specs.Nodes.{Info, has_field}
@@ -71,7 +70,7 @@ module _ (kind : StartKind) (limit : ℕ) (cs : List Call) where
 
   -- The id is that of a live node which has a field.
   abbrev pub HasField : NodeId → Info → Type 0
-  HasField d x = (find d history_after.tree ≡ just x) × (has_field x ≡ true)
+  HasField d x = (find d history_after.tree ≡ Some x) × (has_field x ≡ true)
 
   pub record Follows : Type 0 where
     -- the ids of the root and of the accepted inserts are all different
@@ -91,7 +90,7 @@ module _ (kind : StartKind) (limit : ℕ) (cs : List Call) where
     -- in a list that has no move, from the start whose pointer is nowhere, no press and no release changes press or focus: nothing is pressed
     -- or in focus, and no key fell into a field
     pub nothing_is_hit_before_a_move : kind ≡ New → NoMove cs
-        → (tree_after.interaction.pressed ≡ Absent) × (tree_after.interaction.focus ≡ Absent) × ((name : ℕ) → keys_after name ≡ [])
+        → (tree_after.interaction.pressed ≡ None) × (tree_after.interaction.focus ≡ None) × ((name : ℕ) → keys_after name ≡ [])
 
 abbrev pub Corollaries : Type 0
 Corollaries = (kind : StartKind) (limit : ℕ) → limit < 2 ^ 32 → (cs : List Call) → length cs < 2 ^ 63 → Machines cs → Follows kind limit cs

@@ -3,10 +3,8 @@
 -- What it promises the harbour master: whatever was inserted, removed, styled, pressed and typed before, and however slots and fields were
 -- used again, a live node answers as if every node ever made had a name of its own. Its text is made of the keys that were handled while it had
 -- the focus, and of no other ship's; a field into which no key fell is empty and reads as 9, never as 0; its box is that of the last pass.
-use Rattle.std.specs.Prelude.{ℕ, zero, suc, ◌+◌, ◌<◌, ◌^◌, ◌≡◌, false, cond, List, [], ◌∷◌, ◌++◌, length}
+use Rattle.std.specs.Prelude.{ℕ, zero, suc, ◌+◌, ◌<◌, ◌^◌, ◌≡◌, false, cond, List, [], ◌∷◌, ◌++◌, length, None, Option, Some}
 use Rattle.field.specs.declared.NodeId.{NodeId}
-use Rattle.field.specs.declared.MaybeId.{MaybeId}
-use Rattle.field.specs.declared.MaybeId.TheVariants.{Absent, Present}
 use Rattle.arithmetic.specs.Tests.{same}
 use Rattle.tree.specs.Slots.{same_id, nobody}
 use Rattle.tree.specs.Forest.{kids_of, ids}
@@ -117,10 +115,10 @@ refusals h (c ∷ cs) (d ∷ fed) = refusal_of h c ∷ refusals (recorded h c d)
 -- ---- the claim
 
 -- The children of a node in order, by the calls for the first child and the next sibling.
-abbrev pub siblings : ℕ → Ui → MaybeId → List NodeId
+abbrev pub siblings : ℕ → Ui → Option NodeId → List NodeId
 siblings zero u m = []
-siblings (suc k) u Absent = []
-siblings (suc k) u (Present d) = d ∷ siblings k u (tree.next_sibling u d).answer.value
+siblings (suc k) u None = []
+siblings (suc k) u (Some d) = d ∷ siblings k u (tree.next_sibling u d).answer.value
 
 abbrev pub children_by : Ui → NodeId → List NodeId
 children_by u d = siblings 128 u (tree.first_child u d).answer.value

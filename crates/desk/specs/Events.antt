@@ -1,17 +1,16 @@
 -- Document 01, **Input** and **Metres**, with wish 2 of document 02: each event, the oldest output, the fingerprint, and metres by node.
-use Rattle.std.specs.Prelude.{ℕ, Bool, ◌&&◌, not, cond, List, [], ◌∷◌, ◌++◌, ltb}
+use Rattle.boxes.specs.declared.Pixel.{Pixel}
+use Rattle.std.specs.Prelude.{ℕ, Bool, true, false, ◌&&◌, not, cond, List, [], ◌∷◌, ◌++◌, ltb, None, Option, Some}
 use Rattle.arithmetic.specs.Scalar.{incremented, unsigned_of}
 use Rattle.arithmetic.specs.Fold.{low_bytes, empty_hash, absorbed}
 use Rattle.arithmetic.specs.declared.fold.StateHash.{StateHash}
 use Rattle.field.specs.Fields.{inserted, edited}
 use Rattle.field.specs.Metres.{field_metres}
 use Rattle.field.specs.declared.NodeId.{NodeId}
-use Rattle.field.specs.declared.MaybeId.{MaybeId}
-use Rattle.field.specs.declared.MaybeId.TheVariants.{Absent, Present}
 use Rattle.field.specs.declared.Field.{Field}
 use Rattle.field.specs.declared.EditOp.{EditOp}
 use Rattle.field.specs.declared.EditOp.TheVariants.{Backspace, Delete, Left, Right, Home, End}
-use Rattle.arithmetic.specs.Tests.{same, Maybe, nothing, just}
+use Rattle.arithmetic.specs.Tests.{same}
 use Rattle.tree.specs.Slots.{is_live, is_id}
 use Rattle.tree.specs.Wearing.{refreshed}
 use Rattle.tree.specs.Input.{hit_under}
@@ -19,8 +18,6 @@ use Rattle.tree.specs.Fields.{owns, field_of, change_first}
 use Rattle.tree.specs.Trees.{limit_of, waiting_of, with_fields, with_interaction, with_waiting}
 use Rattle.tree.specs.Calls.{Outcome, gives, guarded, on_field}
 use Rattle.tree.specs.declared.Ui.{Ui}
-use Rattle.tree.specs.Types.{Pointer}
-use Rattle.boxes.specs.declared.Pointer.TheVariants.{Nowhere, Placed}
 use Rattle.tree.specs.declared.Interaction.{Interaction}
 use Rattle.boxes.specs.declared.UiEvent.{UiEvent}
 use Rattle.boxes.specs.declared.UiEvent.TheVariants.{PointerMoved, PointerPressed, PointerReleased, TextEntered, Edit}
@@ -28,10 +25,10 @@ use Rattle.boxes.specs.declared.Key.{Key}
 use Rattle.boxes.specs.declared.Key.TheVariants.{Char, Op}
 
 -- The interaction with some of it changed.
-abbrev pub pointed_at : Interaction → Pointer → Interaction
+abbrev pub pointed_at : Interaction → Option Pixel → Interaction
 pointed_at a pointer' = record { pointer = pointer'; pressed = a.pressed; focus = a.focus; activations = a.activations; decisions = a.decisions; edit_fold = a.edit_fold; overflowed = a.overflowed }
 
-abbrev pub pressed_on : Interaction → MaybeId → Interaction
+abbrev pub pressed_on : Interaction → Option NodeId → Interaction
 pressed_on a d = record { pointer = a.pointer; pressed = d; focus = a.focus; activations = a.activations; decisions = a.decisions; edit_fold = a.edit_fold; overflowed = a.overflowed }
 
 abbrev pub folded_by : Interaction → ℕ → Interaction
@@ -41,32 +38,32 @@ folded_by a h = record { pointer = a.pointer; pressed = a.pressed; focus = a.foc
 abbrev pub id_bytes : NodeId → List ℕ
 id_bytes d = low_bytes 4 d.index ++ low_bytes 8 d.generation
 
-abbrev pub maybe_bytes : MaybeId → List ℕ
-maybe_bytes Absent = low_bytes 4 4294967295 ++ low_bytes 8 0
-maybe_bytes (Present d) = id_bytes d
+abbrev pub maybe_bytes : Option NodeId → List ℕ
+maybe_bytes None = low_bytes 4 4294967295 ++ low_bytes 8 0
+maybe_bytes (Some d) = id_bytes d
 
 -- A node is activated: it is counted, folded, and takes the focus; the press ends. The output waits where the queue has room, else it is counted as lost.
-unfoldable pub activated : Interaction → NodeId → ℕ → Interaction
+unfoldable pub activated : Interaction → NodeId → Bool → Interaction
 activated a d lost = record {
   pointer = a.pointer;
-  pressed = Absent;
-  focus = Present d;
+  pressed = None;
+  focus = Some d;
   activations = incremented a.activations;
   decisions = (absorbed empty_hash (low_bytes 8 a.decisions ++ id_bytes d)).state;
   edit_fold = a.edit_fold;
-  overflowed = cond (same lost 0) a.overflowed (incremented a.overflowed);
+  overflowed = cond lost (incremented a.overflowed) a.overflowed;
 }
 
 unfoldable pub activate : Ui → NodeId → Ui
 activate u d =
     cond (ltb u.output_count (limit_of u))
-    (with_interaction (with_waiting u (waiting_of u ++ d ∷ [])) (activated u.interaction d 0))
-    (with_interaction u (activated u.interaction d 1))
+    (with_interaction (with_waiting u (waiting_of u ++ d ∷ [])) (activated u.interaction d false))
+    (with_interaction u (activated u.interaction d true))
 
 -- A release on the very node of the press activates it; every release ends the press.
-abbrev pub released_on : Ui → MaybeId → MaybeId → Ui
-released_on u hit Absent = with_interaction u (pressed_on u.interaction Absent)
-released_on u hit (Present d) = cond (is_id hit d) (activate u d) (with_interaction u (pressed_on u.interaction Absent))
+abbrev pub released_on : Ui → Option NodeId → Option NodeId → Ui
+released_on u hit None = with_interaction u (pressed_on u.interaction None)
+released_on u hit (Some d) = cond (is_id hit d) (activate u d) (with_interaction u (pressed_on u.interaction None))
 
 -- A key's edit, its kind and its number for the fold.
 abbrev pub keyed_field : Key → Field → Field
@@ -93,26 +90,26 @@ unfoldable pub edit_fold : Ui → NodeId → Key → ℕ
 edit_fold u d key = (absorbed empty_hash (low_bytes 8 u.interaction.edit_fold ++ id_bytes d ++ key_bytes key)).state
 
 -- The field of the node in focus is edited; the fold takes what changed it.
-abbrev pub edit_field : Ui → NodeId → Key → Maybe Field → Ui
-edit_field u d key nothing = u
-edit_field u d key (just f) =
+abbrev pub edit_field : Ui → NodeId → Key → Option Field → Ui
+edit_field u d key None = u
+edit_field u d key (Some f) =
     with_interaction (with_fields u (change_first (owns d) (keyed_field key) u.fields))
     (cond (has_changed f (keyed_field key f)) (folded_by u.interaction (edit_fold u d key)) u.interaction)
 
-abbrev pub edit_focused : Ui → Key → MaybeId → Ui
-edit_focused u key Absent = u
-edit_focused u key (Present d) = cond (is_live (limit_of u) u.slots d) (edit_field u d key (field_of d u.fields)) u
+abbrev pub edit_focused : Ui → Key → Option NodeId → Ui
+edit_focused u key None = u
+edit_focused u key (Some d) = cond (is_live (limit_of u) u.slots d) (edit_field u d key (field_of d u.fields)) u
 
 -- An event before the bits are refreshed, with `hit` the node under the pointer.
-abbrev pub applied_event : Ui → MaybeId → UiEvent → Ui
-applied_event u hit (PointerMoved x' y') = with_interaction u (pointed_at u.interaction (Placed (record { x = x'; y = y' })))
+abbrev pub applied_event : Ui → Option NodeId → UiEvent → Ui
+applied_event u hit (PointerMoved x' y') = with_interaction u (pointed_at u.interaction (Some (record { x = x'; y = y' })))
 applied_event u hit PointerPressed = with_interaction u (pressed_on u.interaction hit)
 applied_event u hit PointerReleased = released_on u hit u.interaction.pressed
 applied_event u hit (TextEntered ch) = edit_focused u (Char ch) u.interaction.focus
 applied_event u hit (Edit op) = edit_focused u (Op op) u.interaction.focus
 
 -- The node under the pointer. Press, release and hover all go by it.
-unfoldable pub hit_of : Ui → MaybeId
+unfoldable pub hit_of : Ui → Option NodeId
 hit_of u = hit_under u u.interaction.pointer
 
 unfoldable pub handled : Ui → UiEvent → Ui
@@ -122,17 +119,17 @@ unfoldable pub handle : Ui → UiEvent → Outcome ℕ
 handle u event = guarded u 0 (gives (handled u event) 0)
 
 -- The oldest waiting output is taken; none where none waits.
-abbrev pub take_oldest : Ui → List NodeId → Outcome MaybeId
-take_oldest u [] = gives u Absent
-take_oldest u (d ∷ ds) = gives (with_waiting u ds) (Present d)
+abbrev pub take_oldest : Ui → List NodeId → Outcome (Option NodeId)
+take_oldest u [] = gives u None
+take_oldest u (d ∷ ds) = gives (with_waiting u ds) (Some d)
 
-unfoldable pub next_output : Ui → Outcome MaybeId
-next_output u = guarded u Absent (take_oldest u (waiting_of u))
+unfoldable pub next_output : Ui → Outcome (Option NodeId)
+next_output u = guarded u None (take_oldest u (waiting_of u))
 
 -- The pointer's bytes: x and y, then 1; of a pointer that is nowhere 0 and 0, then 0.
-abbrev pub pointer_bytes : Pointer → List ℕ
-pointer_bytes Nowhere = low_bytes 4 0 ++ low_bytes 4 0 ++ low_bytes 4 0
-pointer_bytes (Placed pixel) = low_bytes 4 (unsigned_of pixel.x) ++ low_bytes 4 (unsigned_of pixel.y) ++ low_bytes 4 1
+abbrev pub pointer_bytes : Option Pixel → List ℕ
+pointer_bytes None = low_bytes 4 0 ++ low_bytes 4 0 ++ low_bytes 4 0
+pointer_bytes (Some pixel) = low_bytes 4 (unsigned_of pixel.x) ++ low_bytes 4 (unsigned_of pixel.y) ++ low_bytes 4 1
 
 -- The fingerprint: the interaction on a fold that stands at some state.
 abbrev pub interaction_bytes : Interaction → List ℕ

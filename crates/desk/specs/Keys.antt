@@ -1,9 +1,9 @@
 -- Demand 3 in a harbour master's words: the keys that made a node's text.
-use Rattle.std.specs.Prelude.{Bool, true, cond, ℕ, List, [], ◌∷◌, ◌++◌}
+use Rattle.std.specs.Prelude.{Bool, true, cond, ℕ, List, [], ◌∷◌, ◌++◌, Option, None, Some}
 use Rattle.field.specs.Text.{Text, text}
 use Rattle.field.specs.Metres.{is_space}
 use Rattle.field.specs.declared.NodeId.{NodeId}
-use Rattle.arithmetic.specs.Tests.{same, Maybe, nothing, just}
+use Rattle.arithmetic.specs.Tests.{same}
 use Rattle.tree.specs.Forest.{find}
 use Rattle.tree.specs.Nodes.{Info}
 use Rattle.tree.specs.History.{History, Call, Change, refusal_of, recorded, same_name, key_text}
@@ -32,10 +32,10 @@ abbrev pub Log : Type 0
 Log = ℕ → List Key
 
 -- A key goes to the node in focus.
-abbrev pub log_key : Maybe ℕ → Key → Log → Log
-log_key focus key log m = cond (same_name focus (just m)) (log m ++ key ∷ []) (log m)
+abbrev pub log_key : Option ℕ → Key → Log → Log
+log_key focus key log m = cond (same_name focus (Some m)) (log m ++ key ∷ []) (log m)
 
-abbrev pub log_event : Maybe ℕ → UiEvent → Log → Log
+abbrev pub log_event : Option ℕ → UiEvent → Log → Log
 log_event focus (PointerMoved x y) log = log
 log_event focus PointerPressed log = log
 log_event focus PointerReleased log = log
@@ -43,13 +43,13 @@ log_event focus (TextEntered ch) log = log_key focus (Char ch) log
 log_event focus (Edit op) log = log_key focus (Op op) log
 
 -- A node that gets a field begins anew.
-abbrev pub begin_at : Maybe Text → ℕ → Log → Log
-begin_at nothing name log m = cond (same m name) [] (log m)
-begin_at (just t) name log m = log m
+abbrev pub begin_at : Option Text → ℕ → Log → Log
+begin_at None name log m = cond (same m name) [] (log m)
+begin_at (Some t) name log m = log m
 
-abbrev pub log_field : Maybe Info → Log → Log
-log_field nothing log = log
-log_field (just x) log = begin_at x.text x.name log
+abbrev pub log_field : Option Info → Log → Log
+log_field None log = log
+log_field (Some x) log = begin_at x.text x.name log
 
 abbrev pub logged_change : History → Change → Log → Log
 logged_change h (remove d) log = log

@@ -1,5 +1,4 @@
 pub mod Events
-pub mod Support
 pub mod Demand3
 pub mod CallLaws
 pub mod Keys

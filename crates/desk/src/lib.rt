@@ -7,114 +7,68 @@ mod outputs;
 mod wearing;
 
 ghost use Rattle.std.specs.Prelude.{◌≡◌};
-ghost use Rattle.field.specs.Metres.{answer_of};
+ghost use Rattle.text.specs.Refusal.{answered};
 ghost use Rattle.tree.specs.Answers.{changed_of};
-ghost use Rattle.desk.specs.Answers.{taken_of, fingerprint_of};
+ghost use Rattle.desk.specs.Answers.{taken_of};
 ghost use Rattle.desk.specs.Events as calls;
 
 use arithmetic::fold::StateHash;
 pub use boxes::{Key, UiEvent};
-use field::metres::Metres;
-use field::{EditOp, Field, NodeId};
-use text::refusal::{Refusal, Verdict};
-use tree::answers::{Changed, FieldPlace, Neighbour};
-use tree::{Interaction, Ui, fields, input, rules};
-
-// What an event changes of a tree, before the bits are refreshed.
-#[derive(Clone, Copy)]
-pub(crate) struct Parts {
-    pub interaction: Interaction,
-    pub fields: [Field; 8],
-    pub outputs: [NodeId; 128],
-    pub output_count: u32,
-}
+use field::NodeId;
+use text::refusal::Refusal;
+use tree::answers::{Changed, Reply};
+use tree::{Ui, fields, input, rules};
 
 // The oldest output is taken: its node, or none, and the tree without it.
-#[derive(Clone, Copy)]
-pub struct Taken {
-    pub answer: Neighbour,
-    pub tree: Ui,
-}
-
-// The fold that takes in the interaction.
-#[derive(Clone, Copy)]
-pub enum Fingerprint {
-    State(u64),
-    Refused(Refusal),
-}
+pub type Taken = Reply<Option<NodeId>>;
 
 // An event, and the bits refreshed after it.
+#[tactic(auto, unfolding(crate::specs::Events::handle, tree::specs::Calls::guarded))]
 pub fn handle(mut u: Ui, event: UiEvent) -> Changed
     ensures { changed_of result ≡ calls.handle u event }
 {
     if rules::broken(u) {
-        return Changed {
-            verdict: Verdict::Refused(Refusal::Broken),
-            tree: u,
-        };
+        return Reply::refused(u, Refusal::Broken);
     }
-    let interaction = u.interaction;
-    let pointer = interaction.pointer;
-    let pointed = events::pointer_after(pointer, event);
+    let pointed = events::pointer_after(u.interaction.pointer, event);
     let hit = input::under_pointer(u, pointed);
-    let parts = events::applied_event(u, hit, event);
-    let after = parts.interaction;
-    let fields = parts.fields;
-    let outputs = parts.outputs;
-    u.interaction = after;
-    u.fields = fields;
-    u.outputs = outputs;
-    u.output_count = parts.output_count;
-    wearing::refresh_states(u, hit)
+    events::apply(&mut u, hit, event);
+    wearing::refresh_states(&mut u, hit);
+    Reply::accepted(u, ())
 }
 
 // The oldest waiting output, which no longer waits.
-pub fn next_output(u: Ui) -> Taken
+#[tactic(auto, using(tree::proofs::Prechecks::few_slots, tree::proofs::Prechecks::few_waiting, crate::proofs::OutputSteps::the_front), unfolding(crate::specs::Events::next_output, tree::specs::Calls::guarded))]
+pub fn next_output(mut u: Ui) -> Taken
     ensures { taken_of result ≡ calls.next_output u }
 {
     if rules::broken(u) {
-        return Taken {
-            answer: Neighbour::Refused(Refusal::Broken),
-            tree: u,
-        };
+        return Reply::refused(u, Refusal::Broken);
     }
     if u.output_count == 0 {
-        return Taken {
-            answer: Neighbour::Nobody,
-            tree: u,
-        };
+        return Reply::accepted(u, None);
     }
-    let waiting = u.outputs;
-    let oldest = outputs::oldest(waiting, u.output_count);
-    let next = outputs::without_oldest(u);
-    Taken {
-        answer: Neighbour::Node(oldest),
-        tree: next,
-    }
+    let oldest = u.outputs[0];
+    outputs::drop_oldest(&mut u);
+    Reply::accepted(u, Some(oldest))
 }
 
 // The fingerprint: the interaction on a fold that stands at some state.
-pub fn absorb(u: Ui, hash: StateHash) -> Fingerprint
-    ensures { fingerprint_of result ≡ (calls.absorb u hash).answer }
+#[tactic(auto, unfolding(crate::specs::Events::absorb, tree::specs::Calls::guarded))]
+pub fn absorb(u: Ui, hash: StateHash) -> Result<u64, Refusal>
+    ensures { answered 0 result ≡ (calls.absorb u hash).answer }
 {
     if rules::broken(u) {
-        return Fingerprint::Refused(Refusal::Broken);
+        return Err(Refusal::Broken);
     }
-    let interaction = u.interaction;
-    let all = fold::absorb_interaction(hash, interaction);
-    Fingerprint::State(all.finish())
+    Ok(fold::absorb_interaction(hash, u.interaction).finish())
 }
 
 // The field of the node read as metres, in whole centimetres.
-pub fn metres(u: Ui, d: NodeId) -> Metres
-    ensures { answer_of result ≡ (calls.metres u d).answer }
+#[tactic(auto, using(tree::proofs::TakenLaws::a_read_is_refused, tree::proofs::TakenLaws::a_read_finds_the_field), unfolding(crate::specs::Events::metres))]
+pub fn metres(u: Ui, d: NodeId) -> Result<u32, Refusal>
+    ensures { answered 0 result ≡ (calls.metres u d).answer }
 {
-    match u.field_place(d) {
-        FieldPlace::Refused(word) => Metres::Refused(word),
-        FieldPlace::At(i) => {
-            let own = u.fields;
-            let f = fields::field_at(own, i);
-            f.metres()
-        }
-    }
+    let i = u.field_place(d)?;
+    fields::field_at(u.fields, i).metres()
 }

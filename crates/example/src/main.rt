@@ -3,29 +3,24 @@
 
 use desk::UiEvent;
 use field::NodeId;
-use field::metres::Metres;
 use std::io;
-use text::refusal;
-use tree::answers::NewId;
+use text::refusal::Refusal;
 use tree::{Size, Style, Ui, UiLimits, Viewport};
 
 fn main(rt: HostRuntime) -> io::Result<()> {
     let made = Ui::new(UiLimits { nodes: 8 });
     let inserted = made.tree.insert(Ui::root());
-    let answer = inserted.answer;
-    match answer {
-        NewId::Refused(word) => show(&rt, Metres::Refused(word)),
-        NewId::Id(draught) => {
-            let mut u = with_field(inserted.tree, draught);
-            show(&rt, desk::metres(u, draught))?;
-            u = clicked(u, 10, 10);
-            u = typed(u, b'4');
-            u = typed(u, b'.');
-            u = typed(u, b'2');
-            u = typed(u, b'5');
-            show(&rt, desk::metres(u, draught))
-        }
+    let draught = match inserted.answer {
+        Ok(node) => node,
+        Err(word) => return show(&rt, Err(word)),
+    };
+    let mut u = with_field(inserted.tree, draught);
+    show(&rt, desk::metres(u, draught))?;
+    u = clicked(u, 10, 10);
+    for key in b"4.25" {
+        u = typed(u, *key);
     }
+    show(&rt, desk::metres(u, draught))
 }
 
 // A field for the node, a size, and a layout pass, without which no press hits it. Each call gives a verdict and the next tree; a refused
@@ -42,7 +37,7 @@ fn with_field(u: Ui, node: NodeId) -> Ui {
 
 // A press and a release on one node give it the focus.
 fn clicked(u: Ui, x: i32, y: i32) -> Ui {
-    let moved = desk::handle(u, UiEvent::PointerMoved { x: x, y: y });
+    let moved = desk::handle(u, UiEvent::PointerMoved { x, y });
     let down = desk::handle(moved.tree, UiEvent::PointerPressed);
     let up = desk::handle(down.tree, UiEvent::PointerReleased);
     up.tree
@@ -50,17 +45,14 @@ fn clicked(u: Ui, x: i32, y: i32) -> Ui {
 
 // A key goes to the field of the node in focus.
 fn typed(u: Ui, key: u8) -> Ui {
-    let next = desk::handle(u, UiEvent::TextEntered { ch: key as u32 });
+    let next = desk::handle(u, UiEvent::TextEntered { ch: u32::from(key) });
     next.tree
 }
 
-fn show(rt: &impl Print, m: Metres) -> io::Result<()> {
+fn show(rt: &impl Print, m: Result<u32, Refusal>) -> io::Result<()> {
     match m {
-        Metres::Centimetres(n) => println!(rt; "centimetres: {n}"),
-        Metres::Refused(word) => {
-            let n = refusal::number(word);
-            println!(rt; "refused by number {n}")
-        }
+        Ok(n) => println!(rt; "centimetres: {n}"),
+        Err(word) => println!(rt; "refused by number {}", word.number()),
     }
 }
 

@@ -1,5 +1,4 @@
 -- modules that belong to no one function
-pub mod Moves
 pub mod Clear
 pub mod Pastes
 pub mod Ranges

@@ -1,14 +1,13 @@
 -- A text read as metres, by its digits and by how long what stands behind them is, with each comma made a point. Assumes nothing.
-use mathlib.Core.Path.{◌≡◌, refl, sym, ap, ◌∙◌}
+use mathlib.Core.Path.{◌≡◌, refl}
 use mathlib.Core.Bool.{Bool, false, ◌&&◌, ◌||◌, cond}
 use mathlib.Core.List.{List, [], ◌∷◌}
-use Prim.Native.Nat.{ℕ, zero, suc, ◌+◌, ◌-◌, ◌*◌, ◌≤◌, ◌<◌}
-use native.Mathlib.Numerals.{add-one, add-two}
+use Prim.Native.Nat.{ℕ, zero, suc, ◌+◌, ◌-◌, ◌*◌, ◌≤◌}
 use native.Mathlib.Omega.{arith}
 use borrow.Author.Tests.{eqb-true}
 use lib.Dec.{eqb}
-use lib.ListN.{length, get_or, drop, length-drop, length-map, drop_of_length-le, get_or-map}
-use lib.Seq.{drop-cons}
+use lib.ListN.{length, get_or, take, drop, length-map, get_or-map}
+use lib.Seq.{get_or-take}
 use Rattle.arithmetic.proofs.BoolLaws.{pick_of}
 use Rattle.arithmetic.proofs.TestLaws.{bool_cases}
 use Rattle.arithmetic.specs.Tests.{within}
@@ -59,45 +58,48 @@ pub read_pointed : (s : List ℕ) → plain_metres (pointed s)
 unfolding plain_metres
 read_pointed s = rw (length-map s point_for, front_still is_digit digit_still s, whole_still s (front is_digit s), drop_pointed (front is_digit s) s)
 
-module _ (v : ℕ) (s : List ℕ) (at : ℕ) where
-  two : suc at < length s → drop at s ≡ get_or s at 0 ∷ get_or s (suc at) 0 ∷ drop (suc (suc at)) s
-  two k = drop-cons s at 0 (omega arith) ∙ ap (λ (l : List ℕ). get_or s at 0 ∷ l) (drop-cons s (suc at) 0 k)
-
-  three : suc (suc at) < length s → drop at s ≡ get_or s at 0 ∷ get_or s (suc at) 0 ∷ get_or s (suc (suc at)) 0 ∷ drop (suc (suc (suc at))) s
-  three k = two (omega arith) ∙ ap (λ (l : List ℕ). get_or s at 0 ∷ get_or s (suc at) 0 ∷ l) (drop-cons s (suc (suc at)) 0 k)
-
-  pub nothing_behind : length s - at ≡ 0 → behind v (pointed (drop at s)) ≡ accepted v
+-- what stands behind the whole metres, by how long it is
+module _ (v : ℕ) where
+  pub nothing_behind : (s : List ℕ) → length s ≡ 0 → behind v (pointed s) ≡ accepted v
   unfolding behind
-  nothing_behind k = let e : length s ≤ at = omega arith in rw (drop_of_length-le s e)
+  nothing_behind [] k = refl
+  nothing_behind (a ∷ s) k = absurd (omega arith)
 
-  pub two_behind : length s - at ≡ 2 → (t : Bool) → is_point (point_for (get_or s at 0)) && is_digit (get_or s (at + 1) 0) ≡ t
-      → behind v (pointed (drop at s)) ≡ cond t (accepted (v + (get_or s (at + 1) 0 - 48) * 10)) unread
+  pub two_behind : (s : List ℕ) → length s ≡ 2 → (t : Bool) → is_point (point_for (get_or s 0 0)) && is_digit (get_or s 1 0) ≡ t
+      → behind v (pointed s) ≡ cond t (accepted (v + (get_or s 1 0 - 48) * 10)) unread
   unfolding behind
-  two_behind k t e =
-      let e' : is_point (point_for (get_or s at 0)) && is_digit (get_or s (suc at) 0) ≡ t = rw add-one at e in
-      let n : length s ≤ suc (suc at) = omega arith in
-      rw (add-one at, two (omega arith), drop_of_length-le s n, digit_still (get_or s (suc at) 0), value_still (get_or s (suc at) 0), e')
+  two_behind [] k t e = absurd (omega arith)
+  two_behind (a ∷ []) k t e = absurd (omega arith)
+  two_behind (a ∷ b ∷ []) k t e = rw (digit_still b, value_still b, e)
+  two_behind (a ∷ b ∷ c ∷ s) k t e = absurd (omega arith)
 
-  pub three_behind : length s - at ≡ 3 → (t : Bool) → is_point (point_for (get_or s at 0)) && (is_digit (get_or s (at + 1) 0) && is_digit (get_or s (at + 2) 0)) ≡ t
-      → behind v (pointed (drop at s)) ≡ cond t (accepted (v + (get_or s (at + 1) 0 - 48) * 10 + (get_or s (at + 2) 0 - 48))) unread
+  pub three_behind : (s : List ℕ) → length s ≡ 3 → (t : Bool) → is_point (point_for (get_or s 0 0)) && (is_digit (get_or s 1 0) && is_digit (get_or s 2 0)) ≡ t
+      → behind v (pointed s) ≡ cond t (accepted (v + (get_or s 1 0 - 48) * 10 + (get_or s 2 0 - 48))) unread
   unfolding behind
-  three_behind k t e =
-      let e' : is_point (point_for (get_or s at 0)) && (is_digit (get_or s (suc at) 0) && is_digit (get_or s (suc (suc at)) 0)) ≡ t = rw (add-one at, add-two at) at e in
-      let n : length s ≤ suc (suc (suc at)) = omega arith in
-      rw (add-one at, add-two at, three (omega arith), drop_of_length-le s n, digit_still (get_or s (suc at) 0), digit_still (get_or s (suc (suc at)) 0), value_still (get_or s (suc at) 0), value_still (get_or s (suc (suc at)) 0), e')
+  three_behind [] k t e = absurd (omega arith)
+  three_behind (a ∷ []) k t e = absurd (omega arith)
+  three_behind (a ∷ b ∷ []) k t e = absurd (omega arith)
+  three_behind (a ∷ b ∷ c ∷ []) k t e = rw (digit_still b, digit_still c, value_still b, value_still c, e)
+  three_behind (a ∷ b ∷ c ∷ d ∷ s) k t e = absurd (omega arith)
 
-  others : (l : List ℕ) → (length l ≡ 0 → ⊥) → (length l ≡ 2 → ⊥) → (length l ≡ 3 → ⊥) → behind v (pointed l) ≡ unread
+  pub another_behind : (s : List ℕ) → (length s ≡ 0 → ⊥) → (length s ≡ 2 → ⊥) → (length s ≡ 3 → ⊥) → behind v (pointed s) ≡ unread
   unfolding behind
-  others [] p q r = absurd (p refl)
-  others (a ∷ []) p q r = refl
-  others (a ∷ b ∷ []) p q r = absurd (q refl)
-  others (a ∷ b ∷ c ∷ []) p q r = absurd (r refl)
-  others (a ∷ b ∷ c ∷ d ∷ l) p q r = refl
+  another_behind [] p q r = absurd (p refl)
+  another_behind (a ∷ []) p q r = refl
+  another_behind (a ∷ b ∷ []) p q r = absurd (q refl)
+  another_behind (a ∷ b ∷ c ∷ []) p q r = absurd (r refl)
+  another_behind (a ∷ b ∷ c ∷ d ∷ l) p q r = refl
 
-  pub another_behind : (length s - at ≡ 0 → ⊥) → (length s - at ≡ 2 → ⊥) → (length s - at ≡ 3 → ⊥) → behind v (pointed (drop at s)) ≡ unread
-  another_behind p q r =
-      let e : length (drop at s) ≡ length s - at = length-drop at s in
-      others (drop at s) (λ h. p (sym e ∙ h)) (λ h. q (sym e ∙ h)) (λ h. r (sym e ∙ h))
+-- the number that a front makes is that of the list
+pub front_value : (s : List ℕ) (n m : ℕ) → n ≤ m → value_of (take m s) n ≡ value_of s n
+unfolding value_of
+front_value s zero m h = refl
+front_value s (suc n) m h = rw (front_value s n m (omega arith), get_or-take m s n 0 (omega arith))
+
+-- a text that is not empty is read by the digits at its front and by what stands behind them
+pub read_by : (s : List ℕ) {w : ℕ} {digits rest : List ℕ} → eqb (length s) 0 ≡ false → w ≡ front is_digit s → digits ≡ take w s → rest ≡ drop w s → length digits ≡ w
+    → plain_metres (pointed s) ≡ cond (within 1 3 (length digits)) (behind (value_of digits (length digits) * 100) (pointed rest)) unread
+read_by s {w} n e d r l = rw (read_pointed s, n, l, d, r, front_value s w w (omega arith), e)
 
 -- ---- what holds of each kind of answer holds of every reading
 

@@ -1,5 +1,5 @@
 -- Document 01's examples P1 to P12, and those of document 02, as rows of one list.
-use Rattle.std.specs.Prelude.{ℕ, ◌-◌, ◌*◌, ◌^◌, List, [], ◌∷◌, ◌++◌, map, ℤ, pos, take, replicate}
+use Rattle.std.specs.Prelude.{ℕ, ◌-◌, ◌*◌, ◌^◌, List, [], ◌∷◌, ◌++◌, map, ℤ, pos, take, replicate, None}
 use Rattle.arithmetic.specs.Scalar.{add_sat, half_of}
 use Rattle.arithmetic.specs.Growth.{plan_growth}
 use Rattle.text.specs.Refusal.{Answer}
@@ -8,7 +8,6 @@ use Rattle.text.specs.Advance.{measure_of}
 use Rattle.field.specs.Fields.{inserted}
 use Rattle.field.specs.Metres.{metres_of}
 use Rattle.field.specs.declared.Field.{Field}
-use Rattle.field.specs.declared.MaybeId.TheVariants.{Absent}
 
 -- What a definition gives, and what document 01 says.
 pub record Row : Type 0 where
@@ -28,7 +27,7 @@ seen f = pos f.len ∷ pos f.cursor ∷ numbers f.bytes
 
 -- The letter a, `n` times, with the caret behind, and the bytes past them.
 abbrev letters : ℕ → List ℕ → Field
-letters n past = record { owner = Absent; bytes = replicate n 97 ++ past; len = n; cursor = n }
+letters n past = record { owner = None; bytes = replicate n 97 ++ past; len = n; cursor = n }
 
 -- The refusal's number, 0 for none, and the value.
 abbrev told : Answer ℕ → List ℤ

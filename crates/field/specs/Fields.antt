@@ -1,6 +1,6 @@
 -- Document 01, **Field**: the rules for one field, and each edit of it, with all 64 bytes said. proofs/Laws.antt says of a field that
 -- keeps the rules that these are the edits of its text, character by character (`Text`).
-use Rattle.std.specs.Prelude.{ℕ, ◌+◌, ◌-◌, Bool, ◌&&◌, cond, List, ◌++◌, reverse, leb, length, take, drop, replicate}
+use Rattle.std.specs.Prelude.{ℕ, ◌+◌, ◌-◌, Bool, ◌&&◌, cond, List, ◌++◌, reverse, leb, length, take, drop, replicate, None, Some}
 use Rattle.arithmetic.specs.Tests.{over}
 use Rattle.text.specs.Utf8.{is_scalar, encoded}
 use Rattle.text.specs.Reader.{is_utf8, scalars}
@@ -13,15 +13,14 @@ use Rattle.field.specs.declared.NodeId.{NodeId}
 use Rattle.field.specs.declared.Edited.{Edited}
 use Rattle.field.specs.declared.EditOp.{EditOp}
 use Rattle.field.specs.declared.EditOp.TheVariants.{Backspace, Delete, Left, Right, Home, End}
-use Rattle.field.specs.declared.MaybeId.TheVariants.{Absent, Present}
 
 -- The field of nobody, with no text.
 unfoldable pub empty_field : Field
-empty_field = record { owner = Absent; bytes = replicate 64 0; len = 0; cursor = 0 }
+empty_field = record { owner = None; bytes = replicate 64 0; len = 0; cursor = 0 }
 
 -- A node's new field, with no text.
 abbrev pub own_field : NodeId → Field
-own_field d = record { owner = Present d; bytes = empty_field.bytes; len = 0; cursor = 0 }
+own_field d = record { owner = Some d; bytes = empty_field.bytes; len = 0; cursor = 0 }
 
 -- The bytes of the text.
 abbrev pub held : Field → List ℕ

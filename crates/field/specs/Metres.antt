@@ -7,8 +7,6 @@ use Rattle.text.specs.Refusal.{Answer, accepted, refused}
 use Rattle.text.specs.declared.refusal.Refusal.TheVariants.{Broken, Empty, Unread}
 use Rattle.field.specs.Fields.{field_ok, held}
 use Rattle.field.specs.declared.Field.{Field}
-use Rattle.field.specs.declared.metres.Metres.{Metres}
-use Rattle.field.specs.declared.metres.Metres.TheVariants.{Centimetres, Refused}
 
 abbrev pub is_digit : ℕ → Bool
 is_digit b = within 48 57 b
@@ -23,11 +21,6 @@ value_of s (suc n) = value_of s n * 10 + (get_or s n 0 - 48)
 
 abbrev pub unread : Answer ℕ
 unread = refused Unread 0
-
--- The number and the centimetres of each case.
-abbrev pub answer_of : Metres → Answer ℕ
-answer_of (Centimetres v) = accepted v
-answer_of (Refused word) = refused word 0
 
 -- What stands behind the whole metres, of which there are v centimetres.
 unfoldable pub behind : ℕ → List ℕ → Answer ℕ

@@ -1,36 +1,30 @@
 // The field: 64 bytes of UTF-8, a length, a caret and an owner. Edits move over whole characters.
 #![tactic(auto)]
 
-mod bytes;
 pub mod metres;
 
-ghost use Rattle.std.specs.Prelude.{◌≡◌, true, ◌≤◌};
-ghost use Rattle.field.specs.Fields.{empty_field, own_field, in_range, field_ok, cut_out, moved, inserted, edited, shown_of, edit_answer, insert_answer, answer_of, step_back_of, step_forward_of};
+ghost use Rattle.std.specs.Prelude.{◌≡◌, ◌≤◌, true, false, Ok, Err};
+ghost use Rattle.std.specs.Fn.{FnOnceReturnsAtMut};
+ghost use Rattle.text.specs.declared.refusal.Refusal.TheVariants.{Broken};
+ghost use Rattle.field.specs.declared.Edited.{Edited};
+ghost use Rattle.field.specs.Fields.{empty_field, own_field, held, in_range, field_ok, cut_out, inserted, edited, shown_of, edit_answer, insert_answer, answer_of};
 ghost use Rattle.field.specs.Metres.{field_metres};
-ghost use Rattle.field.specs.Metres as reading;
-ghost use Rattle.text.specs.Refusal.{verdict_of};
+ghost use Rattle.text.specs.Refusal.{answered, verdict_of};
 
-use text::refusal::{Refusal, Verdict};
+use text::refusal::Refusal;
 use text::utf8;
 
 // A node's address: a slot, and the generation that the slot had when the node was made.
-#[derive(Clone, Copy)]
+#[derive(Clone, Copy, Debug, PartialEq, Eq)]
 pub struct NodeId {
     pub index: u32,
     pub generation: u64,
 }
 
-// An id, or none.
-#[derive(Clone, Copy)]
-pub enum MaybeId {
-    Absent,
-    Present(NodeId),
-}
-
-// What a key asks of a field, but for a character.
-#[derive(Clone, Copy)]
+// What a key asks of a field, but for a character, with the numbers that the source's fold of edits has.
+#[derive(Clone, Copy, Debug, PartialEq, Eq)]
 pub enum EditOp {
-    Backspace,
+    Backspace = 1,
     Delete,
     Left,
     Right,
@@ -39,28 +33,31 @@ pub enum EditOp {
 }
 
 // A text of at most 64 bytes. `cursor` is the caret, in bytes from the start.
-#[derive(Clone, Copy)]
+// Kept: an array with its length, document 01's own form.
+#[derive(Clone, Copy, Debug, PartialEq, Eq)]
 pub struct Field {
-    pub owner: MaybeId,
+    pub owner: Option<NodeId>,
     pub bytes: [u8; 64],
     pub len: u8,
     pub cursor: u8,
 }
 
 // The answer of an edit asked by a caller, with the field beside it.
-#[derive(Clone, Copy)]
+// Kept: beside the tree's `Reply`, which stands two crates above; a type over what stands beside the answer would be named at each use.
+#[derive(Clone, Copy, Debug, PartialEq, Eq)]
 pub struct Edited {
-    pub verdict: Verdict,
+    pub verdict: Result<(), Refusal>,
     pub field: Field,
 }
 
 impl Field {
     // The field of nobody, with no text.
+    #[tactic(auto, unfolding(crate::specs::Fields::empty_field))]
     pub fn empty() -> Field
         ensures { result ≡ empty_field }
     {
         Field {
-            owner: MaybeId::Absent,
+            owner: None,
             bytes: [0u8; 64],
             len: 0,
             cursor: 0,
@@ -68,18 +65,25 @@ impl Field {
     }
 
     // A node's new field, with no text.
+    #[tactic(auto, unfolding(crate::specs::Fields::empty_field))]
     pub fn owned(d: NodeId) -> Field
         ensures { result ≡ own_field d }
     {
         Field {
-            owner: MaybeId::Present(d),
-            bytes: [0u8; 64],
-            len: 0,
-            cursor: 0,
+            owner: Some(d),
+            ..Field::empty()
         }
     }
 
+    // The bytes of the text; all 64 where the length says more.
+    fn held(&self) -> &[u8]
+        ensures { result.now ≡ held self.now }
+    {
+        &self.bytes[..(self.len as usize).min(64)]
+    }
+
     // Whether length and caret are in their places.
+    #[tactic(auto, unfolding(crate::specs::Fields::in_range))]
     fn in_range(self) -> bool
         ensures { result ≡ in_range self }
     {
@@ -93,54 +97,20 @@ impl Field {
         if !self.in_range() {
             return false;
         }
-        let b = self.bytes;
-        let n = self.len as usize;
-        let k = self.cursor as usize;
-        let whole = utf8::is_utf8(&b[..n]);
-        let before = utf8::is_utf8(&b[..k]);
+        let whole = utf8::is_utf8(self.held());
+        let before = utf8::is_utf8(&self.bytes[..self.cursor as usize]);
         whole & before
     }
 
-    // The start of the character before the caret.
-    fn back(self) -> u8
-        requires { in_range self ≡ true }
-        ensures { result ≡ step_back_of self }
-    {
-        let b = self.bytes;
-        let n = self.len as usize;
-        let k = self.cursor as usize;
-        utf8::step_back(&b[..n], k) as u8
-    }
-
-    // The end of the character after the caret.
-    fn forth(self) -> u8
-        requires { in_range self ≡ true }
-        ensures { result ≡ step_forward_of self }
-    {
-        let b = self.bytes;
-        let n = self.len as usize;
-        let k = self.cursor as usize;
-        utf8::step_forward(&b[..n], k) as u8
-    }
-
     // The field without the bytes of its text from `from` to `to`, the caret at `from`.
-    fn without(mut self, from: u8, to: u8) -> Field
-        requires { (in_range self ≡ true) × (from ≤ to) × (to ≤ self.len) }
+    fn without(mut self, from: usize, to: usize) -> Field
+        requires { (from ≤ to) × (to ≤ self.len) × (self.len ≤ 64) }
         ensures { result ≡ cut_out self from to }
     {
-        let b = self.bytes;
-        let len = self.len;
-        let shut = bytes::closed(b, from, to, len);
-        self.bytes = shut;
-        self.len = len - (to - from);
-        self.cursor = from;
-        self
-    }
-
-    fn at(mut self, cursor: u8) -> Field
-        ensures { result ≡ moved self cursor }
-    {
-        self.cursor = cursor;
+        let len = self.len as usize;
+        self.bytes.copy_within(to..len, from);
+        self.len -= (to - from) as u8;
+        self.cursor = from as u8;
         self
     }
 
@@ -151,14 +121,24 @@ impl Field {
         if !self.in_range() {
             return self;
         }
-        let k = self.cursor;
+        let k = self.cursor as usize;
+        let text = self.held();
         match op {
-            EditOp::Backspace => self.without(self.back(), k),
-            EditOp::Delete => self.without(k, self.forth()),
-            EditOp::Left => self.at(self.back()),
-            EditOp::Right => self.at(self.forth()),
-            EditOp::Home => self.at(0),
-            EditOp::End => self.at(self.len),
+            EditOp::Backspace => self.without(utf8::step_back(text, k), k),
+            EditOp::Delete => self.without(k, utf8::step_forward(text, k)),
+            EditOp::Left => Field {
+                cursor: utf8::step_back(text, k) as u8,
+                ..self
+            },
+            EditOp::Right => Field {
+                cursor: utf8::step_forward(text, k) as u8,
+                ..self
+            },
+            EditOp::Home => Field { cursor: 0, ..self },
+            EditOp::End => Field {
+                cursor: self.len,
+                ..self
+            },
         }
     }
 
@@ -167,121 +147,121 @@ impl Field {
     pub fn insert(mut self, ch: u32) -> Field
         ensures { result ≡ inserted self ch }
     {
-        if !self.in_range() {
-            return self;
-        }
         let e = utf8::encode(ch);
-        let n = e.len;
-        let at = self.cursor;
-        let len = self.len;
-        if n == 0 {
+        if !self.in_range() || e.len == 0 || 64 < self.len + e.len {
             return self;
         }
-        if 64 < len + n {
-            return self;
-        }
-        let b = self.bytes;
-        let four = e.bytes;
-        let wide = bytes::opened(b, at, len, n);
-        let full = bytes::placed(wide, at, four, n);
-        self.bytes = full;
-        self.len = len + n;
-        self.cursor = at + n;
+        let at = self.cursor as usize;
+        let n = e.len as usize;
+        let len = self.len as usize;
+        self.bytes.copy_within(at..len, at + n);
+        self.bytes[at..at + n].copy_from_slice(&e.bytes[..n]);
+        self.len += e.len;
+        self.cursor += e.len;
         self
     }
 
-    // A character, asked by a caller: a field that breaks the rules is refused and handed back.
-    pub fn try_insert(self, ch: u32) -> Edited
-        ensures { answer_of result ≡ insert_answer self ch }
+    // An edit asked by a caller: a field that breaks the rules is refused and handed back.
+    fn tried<F: FnOnce(Field) -> Field>(self, edit: F) -> Edited
+        requires { F.IsAlwaysCallable edit }
+        ensures sound { field_ok self ≡ true → F.post edit self result.field × (result.verdict ≡ Ok tt) }
+        ensures broken { field_ok self ≡ false → result ≡ record { verdict = Err Broken; field = self } }
     {
         if !self.sound() {
             return Edited {
-                verdict: Verdict::Refused(Refusal::Broken),
+                verdict: Err(Refusal::Broken),
                 field: self,
             };
         }
         Edited {
-            verdict: Verdict::Accepted,
-            field: self.insert(ch),
+            verdict: Ok(()),
+            field: edit(self),
         }
+    }
+
+    // A character, asked by a caller.
+    // Kept: `insert` and `edit`, each tried, lent and here: document 01 names both, by value and lent. Each is a line over one helper.
+    pub fn try_insert(self, ch: u32) -> Edited
+        ensures { answer_of result ≡ insert_answer self ch }
+    {
+        self.tried(|f| f.insert(ch))
     }
 
     // An edit, asked by a caller, refused likewise.
     pub fn try_edit(self, op: EditOp) -> Edited
         ensures { answer_of result ≡ edit_answer self op }
     {
-        if !self.sound() {
-            return Edited {
-                verdict: Verdict::Refused(Refusal::Broken),
-                field: self,
-            };
-        }
-        Edited {
-            verdict: Verdict::Accepted,
-            field: self.edit(op),
-        }
+        self.tried(|f| f.edit(op))
+    }
+
+    // An edit of a field that is lent: its field is left behind the reference.
+    fn lent<F: FnOnce(Field) -> Edited>(&mut self, edit: F) -> Result<(), Refusal>
+        requires { F.IsAlwaysCallable edit }
+        ensures { (e : Edited) × F.post edit self.old e × (result ≡ e.verdict) × (self.new ≡ e.field) }
+    {
+        let out = edit(*self);
+        *self = out.field;
+        out.verdict
     }
 
     // A character, put into a field that is lent: `try_insert` answers, and its field is left behind the reference, so that a field that
     // breaks the rules stays byte for byte as it was. A tree whose own field a caller edits so, or by `edit_lent`, is no longer the one that
     // the last call left: the next call checks it as it checks every tree, and takes a field that keeps the rules as it is.
-    pub fn insert_lent(&mut self, ch: u32) -> Verdict
+    pub fn insert_lent(&mut self, ch: u32) -> Result<(), Refusal>
         ensures { (verdict_of result ≡ (insert_answer self.old ch).number) × (self.new ≡ (insert_answer self.old ch).value) }
     {
-        let out = self.try_insert(ch);
-        *self = out.field;
-        out.verdict
+        self.lent(|f| f.try_insert(ch))
     }
 
     // An edit of a field that is lent, by `try_edit` likewise.
-    pub fn edit_lent(&mut self, op: EditOp) -> Verdict
+    pub fn edit_lent(&mut self, op: EditOp) -> Result<(), Refusal>
         ensures { (verdict_of result ≡ (edit_answer self.old op).number) × (self.new ≡ (edit_answer self.old op).value) }
     {
-        let out = self.try_edit(op);
-        *self = out.field;
-        out.verdict
+        self.lent(|f| f.try_edit(op))
+    }
+
+    // An edit of a lent field on a field of one's own.
+    fn here<F: FnOnce(&mut Field) -> Result<(), Refusal>>(mut self, edit: F) -> Edited
+        requires { F.IsAlwaysCallable edit }
+        ensures { FnOnceReturnsAtMut F.FnOnce edit self result.verdict result.field }
+    {
+        let verdict = edit(&mut self);
+        Edited {
+            verdict,
+            field: self,
+        }
     }
 
     // `insert_lent` on a field of one's own, for callers that hold no reference.
     pub fn insert_here(mut self, ch: u32) -> Edited
         ensures { answer_of result ≡ insert_answer self ch }
     {
-        let verdict = self.insert_lent(ch);
-        Edited {
-            verdict,
-            field: self,
-        }
+        self.here(|f| f.insert_lent(ch))
     }
 
     // `edit_lent`, likewise.
     pub fn edit_here(mut self, op: EditOp) -> Edited
         ensures { answer_of result ≡ edit_answer self op }
     {
-        let verdict = self.edit_lent(op);
-        Edited {
-            verdict,
-            field: self,
-        }
+        self.here(|f| f.edit_lent(op))
     }
 
     // The text, with 0 behind it.
-    pub fn shown(self) -> [u8; 64]
+    pub fn shown(mut self) -> [u8; 64]
         ensures { result ≡ shown_of self }
     {
-        let b = self.bytes;
-        let n = self.len;
-        bytes::cleared(b, n)
+        let n = self.held().len();
+        self.bytes[n..].fill(0);
+        self.bytes
     }
 
     // The text read as metres, in whole centimetres; a field that breaks the rules is refused.
-    pub fn metres(self) -> metres::Metres
-        ensures { reading.answer_of result ≡ field_metres self }
+    pub fn metres(self) -> Result<u32, Refusal>
+        ensures { answered 0 result ≡ field_metres self }
     {
         if !self.sound() {
-            return metres::Metres::Refused(Refusal::Broken);
+            return Err(Refusal::Broken);
         }
-        let b = self.bytes;
-        let n = self.len as usize;
-        metres::metres_of(&b[..n])
+        metres::metres_of(self.held())
     }
 }

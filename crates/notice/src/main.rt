@@ -2,8 +2,7 @@
 #![tactic(auto)]
 
 use std::io;
-use text::lines::LineCount;
-use text::{lines, refusal};
+use text::lines;
 
 fn main(rt: HostRuntime) -> io::Result<()> {
     let order =
@@ -17,46 +16,31 @@ fn main(rt: HostRuntime) -> io::Result<()> {
 fn notice(rt: &impl Print, order: &[u8], width: u32) -> io::Result<()> {
     let mut starts = [0u32; 64];
     match lines::break_lines(order, width, &mut starts) {
-        LineCount::Count(n) => {
+        Ok(n) => {
             println!(rt; "{width} pixels: {n} lines")?;
-            show(rt, order, &starts, n as usize)
+            show(rt, order, &starts[..(n as usize).min(64)])
         }
-        LineCount::Refused(word) => {
-            let n = refusal::number(word);
-            println!(rt; "{width} pixels: refused by number {n}")
-        }
+        Err(word) => println!(rt; "{width} pixels: refused by number {}", word.number()),
     }
 }
 
 // The lines: each ends before the space in front of the next, the last where the order ends.
-fn show(rt: &impl Print, order: &[u8], starts: &[u32; 64], n: usize) -> io::Result<()> {
+fn show(rt: &impl Print, order: &[u8], starts: &[u32]) -> io::Result<()> {
     let mut from = 0;
-    for k in 1..64 {
-        if k < n {
-            let next = wide(starts[k]);
-            line(rt, order, from, before(next))?;
-            from = next;
-        }
+    for start in starts.iter().skip(1) {
+        let next = *start as usize;
+        line(rt, order, from, next.saturating_sub(1))?;
+        from = next;
     }
     line(rt, order, from, order.len())
 }
 
-fn wide(x: u32) -> usize {
-    x as usize
-}
-
-fn before(place: usize) -> usize {
-    if place == 0 { 0 } else { place - 1 }
-}
-
-// A line between bars. That it lies inside the order is asked here, so that the loop needs no proof of more than its end.
+// A line between bars, where it lies inside the order.
 fn line(rt: &impl Print, order: &[u8], from: usize, end: usize) -> io::Result<()> {
-    if from <= end {
-        if end <= order.len() {
-            rt.write_all(b"|")?;
-            rt.write_all(&order[from..end])?;
-            rt.write_all(b"|\n")?;
-        }
+    if let Some(line) = order.get(from..end) {
+        rt.write_all(b"|")?;
+        rt.write_all(line)?;
+        rt.write_all(b"|\n")?;
     }
     Ok(())
 }

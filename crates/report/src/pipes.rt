@@ -1,161 +1,60 @@
-// Standard input by lines, and standard output through a buffer. What waits in the buffer is written before more is read, so that a
-// person sees an answer before the next line. A read or a write that fails ends the run.
-ghost use Rattle.std.specs.Prelude.{◌≤◌, IfOk};
+// Standard input by lines, beside an output that is written through a buffer.
+ghost use Rattle.std.specs.Prelude.{◌≡◌, ◌≤◌, IfOk, vec_len};
 
-use crate::line::Line;
-use crate::words;
 use std::io;
-use std::io::Read;
+use std::io::{BufReader, Read, Write};
 
-// How far the buffers are: the next byte of the input's, how many it has, and how many wait in the output's.
-#[derive(Clone, Copy)]
-pub struct Pipes {
-    pub at: usize,
-    pub got: usize,
-    pub held: usize,
-}
-
-// A line of `len` bytes, for which `taken` bytes were read: one more with a newline. None were at the input's end.
-#[derive(Clone, Copy)]
-pub struct Taken {
-    pub len: usize,
-    pub taken: usize,
-    pub pipes: Pipes,
-}
-
-impl Pipes {
-    pub fn new() -> Pipes {
-        Pipes {
-            at: 0,
-            got: 0,
-            held: 0,
-        }
-    }
-}
-
-// Writes what waits: the first bytes of the buffer.
-pub fn flush(rt: &impl Print, out: &[u8; 4096], held: usize) -> io::Result<()> {
-    let n = words::at_most(held, 4096);
-    rt.write_all(&out[..n])
-}
-
-// The next bytes of the input, after what waits is written; none at its end.
-fn refill(
-    rt: &impl Print,
-    input: &mut impl Read,
-    chunk: &mut [u8; 4096],
-    out: &[u8; 4096],
-    held: usize,
-) -> io::Result<usize> {
-    flush(rt, out, held)?;
-    input.read(chunk)
-}
-
-// The next byte; `found` is false at the input's end.
-#[derive(Clone, Copy)]
-struct Next {
-    found: bool,
-    byte: u8,
-    pipes: Pipes,
-}
-
-fn next_byte(
-    rt: &impl Print,
-    input: &mut impl Read,
-    chunk: &mut [u8; 4096],
-    out: &[u8; 4096],
-    p: Pipes,
-) -> io::Result<Next> {
-    let at = p.at;
-    let end = words::at_most(p.got, 4096);
-    if at < end {
-        return Ok(Next {
-            found: true,
-            byte: chunk[at],
-            pipes: Pipes {
-                at: at + 1,
-                got: end,
-                held: p.held,
-            },
-        });
-    }
-    let got = refill(rt, input, chunk, out, p.held)?;
-    Ok(Next {
-        found: 0 < got,
-        byte: chunk[0],
-        pipes: Pipes {
-            at: 1,
-            got: got,
-            held: 0,
-        },
-    })
-}
-
-// The next line, put at the start of `line`. It stops at 1,025 bytes, one more than a line may have.
-pub fn next_line(
-    rt: &impl Print,
-    input: &mut impl Read,
-    line: &mut [u8; 1025],
-    chunk: &mut [u8; 4096],
-    out: &[u8; 4096],
-    start: Pipes,
-) -> io::Result<Taken>
-    ensures { IfOk result (λ r. (r.len ≤ 1025) × (r.taken ≤ 1026)) }
+// The next line, its newline included, in place of what `line` held, and how long it is: nothing at the input's end, and at most 1,025
+// bytes, one more than a line may have without its newline. Where the line has yet to come, what waits in the output is written first, so
+// that a person sees an answer before the next line.
+pub fn next_line<R: Read + Drop>(
+    input: &mut BufReader<R>,
+    out: &mut impl Write,
+    line: &mut Vec<u8>,
+) -> io::Result<usize>
+    ensures { IfOk result (λ n. (n ≡ vec_len line.new) × (n ≤ 1025)) }
 {
-    let mut p = start;
-    for n in 0..1025 {
-        let next = next_byte(rt, input, chunk, out, p)?;
-        p = next.pipes;
-        if !next.found {
-            return Ok(Taken {
-                len: n,
-                taken: n,
-                pipes: p,
-            });
+    if !input.buffer().contains(&b'\n') {
+        out.flush()?;
+    }
+    line.clear();
+    for read in input.by_ref().bytes().take(1025) {
+        let byte = read?;
+        line.push(byte)?;
+        if byte == b'\n' {
+            break;
         }
-        if next.byte == 10 {
-            return Ok(Taken {
-                len: n,
-                taken: n + 1,
-                pipes: p,
-            });
+    }
+    Ok(line.len())
+}
+
+#[cfg(test)]
+mod tests {
+    use super::*;
+    use std::test::Fail;
+
+    #[test]
+    fn lines_of_a_text(rt: HostRuntime) -> Result<(), Fail> {
+        let text: &[u8] = b"one\n\nlast";
+        let mut input = BufReader::with_capacity(rt.alloc(), 3, text)?;
+        let mut out = Vec::new(rt.alloc());
+        let mut line = Vec::new(rt.alloc());
+        for wanted in ["one\n", "\n", "last", ""] {
+            let n = next_line(&mut input, &mut out, &mut line)?;
+            assert_eq!(rt; n, wanted.len());
+            assert_eq!(rt; line.as_slice(), wanted.as_bytes());
         }
-        line[n] = next.byte;
+        Ok(())
     }
-    Ok(Taken {
-        len: 1025,
-        taken: 1025,
-        pipes: p,
-    })
-}
 
-// The line's bytes, behind what waits.
-fn put_at(out: &mut [u8; 4096], held: usize, line: Line) -> usize
-    requires { held ≤ 3900 }
-{
-    let bytes = line.bytes;
-    let n = words::at_most(line.len, 160);
-    for i in 0..n {
-        out[held + i] = bytes[i];
+    #[test]
+    fn a_line_is_cut(rt: HostRuntime) -> Result<(), Fail> {
+        let text = [b'x'; 1026];
+        let mut input = BufReader::new(rt.alloc(), text.as_slice())?;
+        let mut out = Vec::new(rt.alloc());
+        let mut line = Vec::new(rt.alloc());
+        assert_eq!(rt; next_line(&mut input, &mut out, &mut line)?, 1025);
+        assert_eq!(rt; next_line(&mut input, &mut out, &mut line)?, 1);
+        Ok(())
     }
-    held + n
-}
-
-// The same, after what waits is written where there is no room. An answer longer than a `Line` is put by parts.
-pub fn put_part(rt: &impl Print, out: &mut [u8; 4096], p: Pipes, line: Line) -> io::Result<Pipes> {
-    let mut held = p.held;
-    if 3900 < held {
-        flush(rt, out, held)?;
-        held = 0;
-    }
-    Ok(Pipes {
-        at: p.at,
-        got: p.got,
-        held: put_at(out, held, line),
-    })
-}
-
-// The whole of a line, or its last part, and the newline.
-pub fn put(rt: &impl Print, out: &mut [u8; 4096], p: Pipes, line: Line) -> io::Result<Pipes> {
-    put_part(rt, out, p, line.ended())
 }

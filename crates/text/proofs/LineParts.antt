@@ -1,9 +1,10 @@
 -- The code's walks: a word a byte further, a line a word further, the lines a line further, and where each ends. Assumes nothing.
 use mathlib.Core.Path.{◌≡◌, refl, sym, ap, ◌∙◌}
 use mathlib.Core.Bool.{true, false, cond}
-use mathlib.Core.List.{List, [], ◌∷◌, ◌++◌}
+use mathlib.Core.List.{List, [], ◌∷◌, ◌++◌, append-nil}
 use Prim.Native.Nat.{ℕ, zero, suc, ◌+◌, ◌-◌, ◌*◌, ◌≤◌, ◌<◌}
 use native.Mathlib.Numerals.{add-one}
+use native.Mathlib.Decide.{dec_le}
 use native.Mathlib.Omega.{arith}
 use borrow.Author.Tests.{eqb-true, ne_eqb, le-leb, lt-leb, leb-true}
 use lib.Dec.{eqb, leb}
@@ -15,6 +16,7 @@ use Rattle.arithmetic.proofs.TestLaws.{bool_cases}
 use Rattle.text.specs.Advance.{advances, advance_of}
 use Rattle.text.specs.Lines.{Lines, first_of, more_of, all_of, width_of, word_of, cut, onto, breaks, greedy_from, greedy}
 use Rattle.text.specs.Lines.Lines.{lines}
+use Rattle.text.specs.LineStarts.{starts_from}
 use Rattle.text.specs.Steps.{is_tail}
 use Rattle.text.specs.Support.LineParts.{weight_of, Spans, lines_from}
 use Rattle.text.specs.declared.lines.Part.{Part}
@@ -129,6 +131,14 @@ pub no_lines : (w n : ℕ) (s : List ℕ) → length s < n → lines_from w n s 
 unfolding lines_from
 no_lines w n s h = rw (lt-leb n (length s) h)
 
+-- where lines are left, the place is inside
+pub lines_left : (w n : ℕ) (s : List ℕ) → 0 < length (lines_from w n s) → n ≤ length s
+lines_left w n s h = go (dec_le n (length s))
+  where
+    go : Dec (n ≤ length s) → n ≤ length s
+    go (yes p) = p
+    go (no p) = absurd (omega (arith, ap length (no_lines w n s (omega arith))))
+
 some_lines : (w n : ℕ) (s : List ℕ) (b : Lines) → n ≤ length s → greedy weight_of w (drop n s) ≡ b → lines_from w n s ≡ all_of b
 unfolding lines_from
 some_lines w n s b h e = rw (le-leb n (length s) h, e)
@@ -242,18 +252,29 @@ over_at zero r d = over r d
 over_at (suc n) r [] = []
 over_at (suc n) r (x ∷ d) = x ∷ over_at n r d
 
-pub over_start : (r d : List ℕ) → over_at 0 r d ≡ over r d
-unfolding over_at
-over_start r d = refl
-
 pub over_turn : (n a : ℕ) (r d : List ℕ) → n < length d → over_at (suc n) r (set d n a) ≡ over_at n (a ∷ r) d
 unfolding over_at
 over_turn n a r [] h = absurd (omega arith)
 over_turn zero a r (x ∷ d) h = refl
 over_turn (suc n) a r (x ∷ d) h = ap (λ (l : List ℕ). x ∷ l) (over_turn n a r d (omega arith))
 
-pub over_done : (n : ℕ) (d : List ℕ) → over_at n [] d ≡ d
+over_done : (n : ℕ) (d : List ℕ) → over_at n [] d ≡ d
 unfolding over_at
 over_done zero d = refl
 over_done (suc n) [] = refl
 over_done (suc n) (x ∷ d) = ap (λ (l : List ℕ). x ∷ l) (over_done n d)
+
+-- a list written over one as long is that list
+pub over_whole : (r d : List ℕ) → length r ≡ length d → over_at 0 r d ≡ r
+unfolding over_at
+over_whole r d h = rw (drop_of_length-le d {i = length r} (omega arith), append-nil r)
+
+-- each line has a start
+pub starts_length : (n : ℕ) (ls : List (List ℕ)) → length (starts_from n ls) ≡ length ls
+unfolding starts_from
+starts_length n [] = refl
+starts_length n (m ∷ ms) = ap suc (starts_length (n + length m + 1) ms)
+
+pub over_nothing : (n : ℕ) (d r : List ℕ) → length r ≡ 0 → over_at n r d ≡ d
+over_nothing n d [] h = over_done n d
+over_nothing n d (x ∷ r) h = absurd (omega arith)

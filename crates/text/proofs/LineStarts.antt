@@ -1,5 +1,6 @@
 -- What the code finds in the bytes is what the text has in characters, and so what it answers: each refusal by its test, and the count. Assumes
 -- nothing.
+use Rattle.std.specs.Prelude.{Err, Ok, Result}
 use mathlib.Core.Path.{◌≡◌, refl, sym, ap, ◌∙◌}
 use mathlib.Core.Bool.{true, false}
 use mathlib.Core.List.{List}
@@ -13,13 +14,11 @@ use Rattle.arithmetic.specs.Tests.{over}
 use Rattle.text.specs.Advance.{advance_of}
 use Rattle.text.specs.Lines.{Lines, all_of, count_of, text_of, widest_in, widest, words_of, greedy_from}
 use Rattle.text.specs.Lines.Lines.{lines}
-use Rattle.text.specs.LineStarts.{in_bytes, starts_from, starts_of, lines_of, answer_of, line_count_of, starts_kept}
+use Rattle.text.specs.LineStarts.{in_bytes, starts_from, starts_of, lines_of, line_count_of, starts_kept}
 use Rattle.text.specs.Reader.{is_utf8, scalars}
-use Rattle.text.specs.Refusal.{number_of, accepted, refused}
+use Rattle.text.specs.Refusal.{answered, number_of, accepted, refused}
 use Rattle.text.specs.Support.LineParts.{weight_of, lines_from}
 use Rattle.text.specs.Utf8.{encoded_all}
-use Rattle.text.specs.declared.lines.LineCount.{LineCount}
-use Rattle.text.specs.declared.lines.LineCount.TheVariants.{Count, Refused}
 use Rattle.text.specs.declared.refusal.Refusal.{Refusal}
 use Rattle.text.specs.declared.refusal.Refusal.TheVariants.{IllFormed, Wide, Short}
 use Rattle.text.proofs.Greedy.{whole, fit, words_inside}
@@ -68,30 +67,30 @@ module _ (s : List ℕ) (h : is_utf8 s ≡ true) (w : ℕ) where
   fit_found k = words_fit s w (lines_of s w) (of_the_text s w) (omega (arith, widest_found))
 
 -- the answers
-abbrev Told : List ℕ → ℕ → List ℕ → LineCount → List ℕ → Type 0
-Told s w old r new = (answer_of r ≡ line_count_of s w (length old)) × (new ≡ starts_kept s w old)
+abbrev Told : List ℕ → ℕ → List ℕ → Result ℕ Refusal → List ℕ → Type 0
+Told s w old r new = (answered 0 r ≡ line_count_of s w (length old)) × (new ≡ starts_kept s w old)
 
 module _ (s : List ℕ) (w : ℕ) (old : List ℕ) where
-  unwritten : (word : Refusal) → eqb (number_of word) 0 ≡ false → line_count_of s w (length old) ≡ refused word 0 → Told s w old (Refused word) old
+  unwritten : (word : Refusal) → eqb (number_of word) 0 ≡ false → line_count_of s w (length old) ≡ refused word 0 → Told s w old (Err word) old
   unfolding starts_kept
   unwritten word n e = (sym e, rw (e, n))
 
-  pub ill_formed : is_utf8 s ≡ false → Told s w old (Refused IllFormed) old
+  pub ill_formed : is_utf8 s ≡ false → Told s w old (Err IllFormed) old
   unfolding line_count_of
   ill_formed h = unwritten IllFormed refl (rw h)
 
   module _ (h : is_utf8 s ≡ true) where
-    pub too_long : 1024 < length s → Told s w old (Refused Short) old
+    pub too_long : 1024 < length s → Told s w old (Err Short) old
     unfolding line_count_of
     too_long k = unwritten Short refl (rw (h, lt-ltb 1024 (length s) k))
 
     module _ (k : length s ≤ 1024) where
-      pub too_wide : w < widest_in weight_of (lines_from w 0 s) → Told s w old (Refused Wide) old
+      pub too_wide : w < widest_in weight_of (lines_from w 0 s) → Told s w old (Err Wide) old
       unfolding line_count_of
       too_wide f = unwritten Wide refl (rw (h, le-ltb 1024 (length s) k, lt-ltb w (widest advance_of (words_of (scalars s))) (wide_found s h w f)))
 
       module _ (f : widest_in weight_of (lines_from w 0 s) ≤ w) where
-        pub too_small : length old < length (lines_from w 0 s) → Told s w old (Refused Short) old
+        pub too_small : length old < length (lines_from w 0 s) → Told s w old (Err Short) old
         unfolding line_count_of
         too_small j =
             let i : length old < count_of (lines_of s w) = omega (arith, count_found s h w) in
@@ -105,6 +104,6 @@ module _ (s : List ℕ) (w : ℕ) (old : List ℕ) where
               let i : count_of (lines_of s w) ≤ length old = omega (arith, count_found s h w) in
               rw (h, le-ltb 1024 (length s) k, le-ltb w (widest advance_of (words_of (scalars s))) (fit_found s h w f), le-ltb (length old) (count_of (lines_of s w)) i)
 
-          pub served : Told s w old (Count (length (lines_from w 0 s))) (over (starts_from 0 (lines_from w 0 s)) old)
+          pub served : Told s w old (Ok (length (lines_from w 0 s))) (over (starts_from 0 (lines_from w 0 s)) old)
           unfolding starts_kept
           served = (ap accepted (count_found s h w) ∙ sym counted, rw (counted, starts_found s h w))

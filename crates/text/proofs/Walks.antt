@@ -1,27 +1,26 @@
 -- Walks over a list of bytes, a place at a time: back to a byte that is no tail, and forward while a test holds. Assumes nothing.
-use mathlib.Core.Path.{◌≡◌, refl, ap, ◌∙◌}
+use mathlib.Core.Path.{◌≡◌, refl, sym, ap, ◌∙◌}
 use mathlib.Core.Bool.{Bool, true, false, cond}
 use mathlib.Core.List.{List, [], ◌∷◌}
 use Prim.Native.Nat.{ℕ, zero, suc, ◌+◌, ◌-◌, ◌≤◌, ◌<◌}
 use native.Mathlib.Numerals.{add-one}
 use native.Mathlib.Omega.{arith}
 use borrow.Author.Tests.{lt-leb}
-use lib.ListN.{length, get_or, drop, drop_of_length-le, get_or-eq_default}
-use lib.Seq.{drop-cons}
+use lib.ListN.{length, get_or, drop, drop_of_length-le, get_or-eq_default, take, length-drop}
+use lib.Seq.{drop-cons, take-length}
+use Rattle.std.proofs.lemmas.List.{get_or-drop}
 use Rattle.arithmetic.specs.Tests.{within}
 use Rattle.text.specs.Steps.{is_tail, back_of, front}
 
--- the walk back ends here: at a byte that is no tail, and past the bytes
+-- the walk back ends here: at a byte that is no tail, and none stands past the bytes
 pub back_ends_at_no_tail : (s : List ℕ) (i : ℕ) → is_tail (get_or s i 0) ≡ false → back_of s i ≡ i
 unfolding back_of
 back_ends_at_no_tail s zero e = refl
 back_ends_at_no_tail s (suc i) e = rw e
 
-pub back_ends_past : (s : List ℕ) (i : ℕ) → length s ≤ i → back_of s i ≡ i
+pub no_tail_past : (s : List ℕ) (i : ℕ) → length s ≤ i → is_tail (get_or s i 0) ≡ false
 unfolding within
-back_ends_past s i h =
-    let e : get_or s i 0 ≡ 0 = get_or-eq_default s 0 h in
-    back_ends_at_no_tail s i (ap is_tail e ∙ rw (lt-leb 0x80 0 (omega arith)))
+no_tail_past s i h = ap is_tail (get_or-eq_default s 0 h) ∙ rw (lt-leb 0x80 0 (omega arith))
 
 -- or goes on before a tail
 pub back_goes_on : (s : List ℕ) (i : ℕ) → 0 < i → is_tail (get_or s i 0) ≡ true → back_of s i ≡ back_of s (i - 1)
@@ -60,3 +59,10 @@ front_not_longer t (b ∷ s) = go (t b) (front_not_longer t s)
     go : (k : Bool) → front t s ≤ length s → cond k (suc (front t s)) 0 ≤ suc (length s)
     go true h = omega arith
     go false h = omega arith
+
+-- what is lent from place n on
+pub lent_from : (n : ℕ) (s : List ℕ) → take (length s - n) (drop n s) ≡ drop n s
+lent_from n s = ap (λ (k : ℕ). take k (drop n s)) (sym (length-drop n s)) ∙ take-length (drop n s)
+
+pub lent_at : (n : ℕ) (s : List ℕ) (i : ℕ) → get_or (take (length s - n) (drop n s)) i 0 ≡ get_or s (n + i) 0
+lent_at n s i = ap (λ (l : List ℕ). get_or l i 0) (lent_from n s) ∙ get_or-drop n s i 0

@@ -4,8 +4,6 @@ use Rattle.arithmetic.specs.Scalar.{from_int}
 use Rattle.arithmetic.specs.Tests.{within}
 use Rattle.text.specs.Reader.{is_utf8, scalars}
 use Rattle.text.specs.Refusal.{Answer, accepted, refused}
-use Rattle.text.specs.declared.Measured.{Measured}
-use Rattle.text.specs.declared.Measured.TheVariants.{Width, Refused}
 use Rattle.text.specs.declared.refusal.Refusal.TheVariants.{IllFormed}
 use Rattle.text.specs.declared.utf8.Place.{Place}
 
@@ -29,11 +27,6 @@ stop_sum t (a ∷ rest) = stop_sum (min (t + a) (2 ^ 31 - 1)) rest
 -- The sum after a byte: one advance more where a character has ended.
 unfoldable pub counted_of : ℕ → Place → ℕ
 counted_of t p = cond (eqb p.left 0) (min (t + advance_of p.code) (2 ^ 31 - 1)) t
-
--- The number and the raw units of each case.
-abbrev pub answer_of : Measured → Answer ℤ
-answer_of (Width w) = accepted w
-answer_of (Refused word) = refused word (pos 0)
 
 -- The width of a text in raw units; bytes that are not UTF-8 have none.
 unfoldable pub measure_of : List ℕ → Answer ℤ

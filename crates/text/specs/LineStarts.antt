@@ -8,8 +8,6 @@ use Rattle.text.specs.Lines.Lines.{lines}
 use Rattle.text.specs.Reader.{is_utf8, scalars}
 use Rattle.text.specs.Refusal.{Answer, accepted, refused}
 use Rattle.text.specs.Utf8.{encoded_all}
-use Rattle.text.specs.declared.lines.LineCount.{LineCount}
-use Rattle.text.specs.declared.lines.LineCount.TheVariants.{Count, Refused}
 use Rattle.text.specs.declared.refusal.Refusal.TheVariants.{IllFormed, Wide, Short}
 
 -- Lines of characters as lines of bytes.
@@ -27,11 +25,6 @@ starts_of b = starts_from 0 (all_of b)
 -- The lines of a text, by the advances of document 01.
 unfoldable pub lines_of : List ℕ → ℕ → Lines
 lines_of s w = greedy advance_of w (scalars s)
-
--- The number and the count of each case.
-abbrev pub answer_of : LineCount → Answer ℕ
-answer_of (Count n) = accepted n
-answer_of (Refused word) = refused word 0
 
 -- How many lines, for a width and a buffer of so many places; or the refusal that comes first.
 unfoldable pub line_count_of : List ℕ → ℕ → ℕ → Answer ℕ

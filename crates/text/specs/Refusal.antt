@@ -1,9 +1,7 @@
 -- Document 01, "Refusal words", and those that document 02 adds: the number of each word, and what an answer tells.
-use Rattle.std.specs.Prelude.{ℕ}
+use Rattle.std.specs.Prelude.{ℕ, Err, Ok, Result}
 use Rattle.text.specs.declared.refusal.Refusal.{Refusal}
 use Rattle.text.specs.declared.refusal.Refusal.TheVariants.{Broken, Large, Missing, Full, Root, Foreign, Long, Fieldless, Empty, Unread, IllFormed, Wide, Short}
-use Rattle.text.specs.declared.refusal.Verdict.{Verdict}
-use Rattle.text.specs.declared.refusal.Verdict.TheVariants.{Accepted, Refused}
 
 -- The table.
 abbrev pub number_of : Refusal → ℕ
@@ -21,10 +19,10 @@ number_of IllFormed = 11
 number_of Wide = 12
 number_of Short = 13
 
--- The number of a verdict: 0 where the call is accepted.
-abbrev pub verdict_of : Verdict → ℕ
-verdict_of Accepted = 0
-verdict_of (Refused word) = number_of word
+-- The number of an answer: 0 where the call is accepted.
+abbrev pub verdict_of : {A : Type 0} → Result A Refusal → ℕ
+verdict_of (Ok _) = 0
+verdict_of (Err word) = number_of word
 
 -- What a call tells: the refusal's number, 0 where it is accepted, and its value, 0 where it is refused.
 pub record Answer (A : Type 0) : Type 0 where
@@ -37,3 +35,8 @@ accepted v = record { number = 0; value = v }
 -- Refused by a word, with the value that stands for none.
 abbrev pub refused : {A : Type 0} → Refusal → A → Answer A
 refused word none = record { number = number_of word; value = none }
+
+-- What a call that answers a `Result` tells, by the value that stands for none.
+abbrev pub answered : {A : Type 0} → A → Result A Refusal → Answer A
+answered none (Ok v) = accepted v
+answered none (Err word) = refused word none

@@ -1,5 +1,5 @@
 // UTF-8 as RFC 3629 has it: a reader that takes a byte at a time, the length and the bytes of a character, and steps over whole characters.
-ghost use Rattle.std.specs.Prelude.{◌≡◌, true, ◌^◌, ◌<◌};
+ghost use Rattle.std.specs.Prelude.{◌≡◌, true, ◌^◌, ◌<◌, get_or};
 ghost use Rattle.text.specs.Utf8.{is_scalar, encoded, padded, encoded_as};
 ghost use Rattle.text.specs.Lengths.{length_of};
 ghost use Rattle.text.specs.Reader.{place, lead_of, step_of, is_utf8};
@@ -14,87 +14,89 @@ pub struct Place {
     pub code: u32,
 }
 
-fn standing(left: u8, low: u8, high: u8, code: u32) -> Place
-    ensures { result ≡ place left low high code }
-{
-    Place {
-        left,
-        low,
-        high,
-        code,
-    }
-}
+// No byte lies from 255 to 0: who stands here stays here.
+// Kept: a place like the others and no variant: a byte from 255 to 0 is none, so that a step asks nothing more, as the definition `lost` has it.
+const LOST: Place = Place {
+    left: 1,
+    low: 255,
+    high: 0,
+    code: 0,
+};
 
-// The reader before the first byte.
-pub fn start() -> Place
-    ensures { result ≡ place 0 0 0 0 }
-{
-    standing(0, 0, 0, 0)
-}
+impl Place {
+    fn new(left: u8, low: u8, high: u8, code: u32) -> Place
+        ensures { result ≡ place left low high code }
+    {
+        Place {
+            left,
+            low,
+            high,
+            code,
+        }
+    }
 
-// The reader after a first byte, by the lines of the RFC's grammar.
-fn lead(b: u8) -> Place
-    ensures { result ≡ lead_of b }
-{
-    let v = b as u32;
-    if b <= 0x7f {
-        return standing(0, 0, 0, v);
+    // The reader before the first byte.
+    pub fn start() -> Place
+        ensures { result ≡ place 0 0 0 0 }
+    {
+        Place::new(0, 0, 0, 0)
     }
-    if (0xc2 <= b) & (b <= 0xdf) {
-        return standing(1, 0x80, 0xbf, v % 32);
-    }
-    if b == 0xe0 {
-        return standing(2, 0xa0, 0xbf, v % 16);
-    }
-    if (0xe1 <= b) & (b <= 0xec) {
-        return standing(2, 0x80, 0xbf, v % 16);
-    }
-    if b == 0xed {
-        return standing(2, 0x80, 0x9f, v % 16);
-    }
-    if (0xee <= b) & (b <= 0xef) {
-        return standing(2, 0x80, 0xbf, v % 16);
-    }
-    if b == 0xf0 {
-        return standing(3, 0x90, 0xbf, v % 8);
-    }
-    if (0xf1 <= b) & (b <= 0xf3) {
-        return standing(3, 0x80, 0xbf, v % 8);
-    }
-    if b == 0xf4 {
-        return standing(3, 0x80, 0x8f, v % 8);
-    }
-    standing(1, 255, 0, 0)
-}
 
-// The reader one byte further. The bound on the bits read holds of every reader that began at the start.
-pub(crate) fn step(p: Place, b: u8) -> Place
-    requires { p.code < 2 ^ 26 }
-    ensures { result ≡ step_of p b }
-{
-    if p.left == 0 {
-        return lead(b);
+    // The reader after a first byte, by the lines of the RFC's grammar.
+    #[tactic(auto, unfolding(crate::specs::Reader::lead_of, arithmetic::specs::Tests::within))]
+    fn lead(b: u8) -> Place
+        ensures { result ≡ lead_of b }
+    {
+        let v = u32::from(b);
+        match b {
+            0..=0x7f => Place::new(0, 0, 0, v),
+            0xc2..=0xdf => Place::new(1, 0x80, 0xbf, v % 32),
+            0xe0 => Place::new(2, 0xa0, 0xbf, v % 16),
+            0xe1..=0xec | 0xee..=0xef => Place::new(2, 0x80, 0xbf, v % 16),
+            0xed => Place::new(2, 0x80, 0x9f, v % 16),
+            0xf0 => Place::new(3, 0x90, 0xbf, v % 8),
+            0xf1..=0xf3 => Place::new(3, 0x80, 0xbf, v % 8),
+            0xf4 => Place::new(3, 0x80, 0x8f, v % 8),
+            _ => LOST,
+        }
     }
-    if (p.low <= b) & (b <= p.high) {
-        return standing(p.left - 1, 0x80, 0xbf, p.code * 64 + (b as u32) % 64);
+
+    // The reader one byte further. The bound on the bits read holds of every reader that began at the start.
+    // Kept: a clause and no ghost field, since `Place` is public, and a field would ask more of who builds one.
+    #[tactic(auto, unfolding(crate::specs::Reader::step_of, arithmetic::specs::Tests::within))]
+    pub(crate) fn step(self, b: u8) -> Place
+        requires { self.code < 2 ^ 26 }
+        ensures { result ≡ step_of self b }
+    {
+        if self.left == 0 {
+            return Place::lead(b);
+        }
+        if (self.low <= b) & (b <= self.high) {
+            return Place::new(
+                self.left - 1,
+                0x80,
+                0xbf,
+                self.code * 64 + u32::from(b) % 64,
+            );
+        }
+        LOST
     }
-    standing(1, 255, 0, 0)
 }
 
 // Whether the bytes are UTF-8.
+// Kept: no `str::from_utf8`, since document 01 asks that the RFC's reading is proved here, from its grammar, and not taken from a library.
 pub fn is_utf8(s: &[u8]) -> bool
     ensures { result ≡ is_utf8 s.now }
 {
-    let mut p = start();
-    let mut i = 0;
-    while i < s.len() {
-        p = step(p, s[i]);
-        i += 1;
+    let mut p = Place::start();
+    for b in s {
+        p = p.step(*b);
     }
     p.left == 0
 }
 
 // Up to four bytes, and how many they are.
+// Kept: an array and a count, since a slice or a `Vec` would need an owner or the heap, which document 01 rules out.
 #[derive(Clone, Copy)]
 pub struct Encoded {
     pub bytes: [u8; 4],
@@ -102,15 +104,18 @@ pub struct Encoded {
 }
 
 // Whether a code is a character: a Unicode scalar value.
+#[tactic(auto, unfolding(crate::specs::Utf8::is_scalar, arithmetic::specs::Tests::within))]
 fn is_scalar(code: u32) -> bool
     ensures { result ≡ is_scalar code }
 {
-    (code <= 0xd7ff) | ((0xe000 <= code) & (code <= 0x10ffff))
+    char::from_u32(code).is_some()
 }
 
+// Kept: no `char::len_utf8`, since document 02 asks for this arithmetic by name.
 // How many bytes a character has. It is arithmetic on the count of leading zero bits without a branch, since branch coverage is reviewed by hand:
 // each quotient is 1 from 8, 12 and 17 bits on, and 0 before. Whether the code is a character is not asked: a surrogate has 3, a code past the last
 // character 4.
+#[tactic(auto, unfolding(crate::specs::Lengths::length_of, crate::specs::Lengths::length_by))]
 pub fn length_of(code: u32) -> u8
     ensures { result ≡ length_of code }
 {
@@ -119,6 +124,7 @@ pub fn length_of(code: u32) -> u8
 }
 
 // The bytes of a character that has `len` of them, and 0 behind them.
+// Kept: no `char::encode_utf8`, since document 01 asks that the RFC's writing is proved here, from its table, and not taken from a library.
 fn bytes_of(code: u32, len: u8) -> [u8; 4]
     requires { (is_scalar code ≡ true) × (len ≡ length_of code) }
     ensures { result ≡ (padded (encoded code)).bytes }
@@ -135,6 +141,7 @@ fn bytes_of(code: u32, len: u8) -> [u8; 4]
 }
 
 // A character as UTF-8; no bytes for a code that is no character.
+#[tactic(auto, unfolding(crate::specs::Utf8::encoded_as))]
 pub fn encode(code: u32) -> Encoded
     ensures { result ≡ encoded_as code }
 {
@@ -152,28 +159,31 @@ pub fn encode(code: u32) -> Encoded
 }
 
 // Whether a byte starts no character.
+#[tactic(auto, unfolding(arithmetic::specs::Tests::within))]
 pub(crate) fn is_tail(b: u8) -> bool
     ensures { result ≡ is_tail b }
 {
-    (0x80 <= b) & (b <= 0xbf)
+    matches!(b, 0x80..=0xbf)
+}
+
+// Whether a byte that starts no character stands at i.
+fn tail_at(s: &[u8], i: usize) -> bool
+    ensures { result ≡ is_tail (get_or s.now i 0) }
+{
+    match s.get(i) {
+        Some(b) => is_tail(*b),
+        None => false,
+    }
 }
 
 // The start of the character that ends at `at`; 0 at the start of the bytes.
 pub fn step_back(s: &[u8], at: usize) -> usize
     ensures { result ≡ step_back s.now at }
 {
-    if at == 0 {
-        return 0;
-    }
-    let mut i = at - 1;
-    while 0 < i {
-        if s.len() <= i {
+    for i in (1..at).rev() {
+        if !tail_at(s, i) {
             return i;
         }
-        if !is_tail(s[i]) {
-            return i;
-        }
-        i -= 1;
     }
     0
 }
@@ -185,12 +195,10 @@ pub fn step_forward(s: &[u8], at: usize) -> usize
     if s.len() <= at {
         return at;
     }
-    let mut i = at + 1;
-    while i < s.len() {
-        if !is_tail(s[i]) {
-            return i;
+    for (i, b) in s[at + 1..].iter().enumerate() {
+        if !is_tail(*b) {
+            return at + 1 + i;
         }
-        i += 1;
     }
-    i
+    s.len()
 }

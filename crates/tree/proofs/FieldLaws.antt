@@ -1,6 +1,7 @@
 -- The fields by owner. A live node's field is left alone when those of dead owners are cleared, and when another node claims one. Each
 -- field is vacant after the clearing or some live node's: so none is vacant just where as many live nodes have a field as there are
 -- fields. Assumes nothing.
+use Rattle.std.specs.Prelude.{None, Option, Some}
 use mathlib.Core.Path.{◌≡◌, refl, sym, ap, ◌∙◌, subst}
 use mathlib.Core.Bool.{Bool, true, false, not, ◌&&◌, cond}
 use mathlib.Core.List.{List, [], ◌∷◌}
@@ -12,10 +13,8 @@ use Rattle.field.specs.Text.{Text, text}
 use Rattle.field.specs.Fields.{empty_field, field_ok, in_range, text_of, own_field}
 use Rattle.field.proofs.Laws.{empty_field_keeps_the_rules, empty_field_has_no_text}
 use Rattle.field.specs.declared.NodeId.{NodeId}
-use Rattle.field.specs.declared.MaybeId.{MaybeId}
-use Rattle.field.specs.declared.MaybeId.TheVariants.{Absent, Present}
 use Rattle.field.specs.declared.Field.{Field}
-use Rattle.arithmetic.specs.Tests.{same, all, Maybe, nothing, just}
+use Rattle.arithmetic.specs.Tests.{same, all}
 use Rattle.arena.specs.Slots.{Slots, at, is_live, id_at, is_id, same_id}
 use Rattle.arena.specs.Fields.{first_field, owns, field_of, owner_dead, reclaimed, vacant, change_first, claimed}
 use Rattle.arena.specs.Rules.{owners_well}
@@ -77,11 +76,11 @@ abbrev pub vacants : List Field → ℕ
 vacants [] = 0
 vacants (f ∷ fs) = bit (vacant f) + vacants fs
 
-abbrev pub is_field : Maybe Field → Bool
-is_field nothing = false
-is_field (just f) = true
+abbrev pub is_field : Option Field → Bool
+is_field None = false
+is_field (Some f) = true
 
-pub who_owns_nothing_has_no_field : (d : NodeId) (fs : List Field) → owned d fs ≡ 0 → field_of d fs ≡ nothing
+pub who_owns_nothing_has_no_field : (d : NodeId) (fs : List Field) → owned d fs ≡ 0 → field_of d fs ≡ None
 unfolding field_of
 who_owns_nothing_has_no_field d [] z = refl
 who_owns_nothing_has_no_field d (f ∷ fs) z =
@@ -101,44 +100,44 @@ pub an_id_that_owns_no_field : (d : NodeId) (fs : List Field) → AllFields (λ 
 an_id_that_owns_no_field d [] h = refl
 an_id_that_owns_no_field d (f ∷ fs) h = let I = an_id_that_owns_no_field d fs h.1 in rw h.0 (omega arith)
 
-pub no_vacant_field_is_found : (fs : List Field) → first_field vacant fs ≡ nothing → vacants fs ≡ 0
+pub no_vacant_field_is_found : (fs : List Field) → first_field vacant fs ≡ None → vacants fs ≡ 0
 no_vacant_field_is_found [] e = refl
 no_vacant_field_is_found (f ∷ fs) e =
     bool_cases (vacant f)
-    (λ q. let e' : just f ≡ nothing = sym (rw q) ∙ e in let z : ◌≡◌ {A = ℕ} 0 1 = cc in absurd (omega arith))
-    (λ q. let e' : first_field vacant fs ≡ nothing = sym (rw q) ∙ e in let I = no_vacant_field_is_found fs e' in rw q (omega arith))
+    (λ q. let e' : Some f ≡ None = sym (rw q) ∙ e in let z : ◌≡◌ {A = ℕ} 0 1 = cc in absurd (omega arith))
+    (λ q. let e' : first_field vacant fs ≡ None = sym (rw q) ∙ e in let I = no_vacant_field_is_found fs e' in rw q (omega arith))
 
-pub a_vacant_field_is_found : (fs : List Field) (f : Field) → first_field vacant fs ≡ just f → 0 < vacants fs
+pub a_vacant_field_is_found : (fs : List Field) (f : Field) → first_field vacant fs ≡ Some f → 0 < vacants fs
 a_vacant_field_is_found [] f e = let z : ◌≡◌ {A = ℕ} 0 1 = cc in absurd (omega arith)
 a_vacant_field_is_found (h ∷ fs) f e =
     bool_cases (vacant h)
     (λ q. rw q (omega arith))
-    (λ q. let e' : first_field vacant fs ≡ just f = sym (rw q) ∙ e in let I = a_vacant_field_is_found fs f e' in rw q (omega arith))
+    (λ q. let e' : first_field vacant fs ≡ Some f = sym (rw q) ∙ e in let I = a_vacant_field_is_found fs f e' in rw q (omega arith))
 
 -- ---- a vacant field is nobody's
 
-abbrev is_vacant : MaybeId → Bool
-is_vacant Absent = true
-is_vacant (Present d) = false
+abbrev is_vacant : Option NodeId → Bool
+is_vacant None = true
+is_vacant (Some d) = false
 
-vacant_by_owner : (o : MaybeId) (bytes : List ℕ) (len cursor : ℕ) → vacant (record { owner = o; bytes = bytes; len = len; cursor = cursor }) ≡ is_vacant o
-vacant_by_owner Absent bytes len cursor = refl
-vacant_by_owner (Present d) bytes len cursor = refl
+vacant_by_owner : (o : Option NodeId) (bytes : List ℕ) (len cursor : ℕ) → vacant (record { owner = o; bytes = bytes; len = len; cursor = cursor }) ≡ is_vacant o
+vacant_by_owner None bytes len cursor = refl
+vacant_by_owner (Some d) bytes len cursor = refl
 
 vacant_is : (f : Field) → vacant f ≡ is_vacant f.owner
 vacant_is f = vacant_by_owner f.owner f.bytes f.len f.cursor
 
-nobody_owns : (o : MaybeId) (d : NodeId) → is_vacant o ≡ true → is_id o d ≡ false
-nobody_owns Absent d e = refl
-nobody_owns (Present e') d e = let z : ◌≡◌ {A = ℕ} 0 1 = cc in absurd (omega arith)
+nobody_owns : (o : Option NodeId) (d : NodeId) → is_vacant o ≡ true → is_id o d ≡ false
+nobody_owns None d e = refl
+nobody_owns (Some e') d e = let z : ◌≡◌ {A = ℕ} 0 1 = cc in absurd (omega arith)
 
 vacant_owns : (f : Field) (d : NodeId) → vacant f ≡ true → owns d f ≡ false
 vacant_owns f d e = nobody_owns f.owner d (sym (vacant_is f) ∙ e)
 
 -- a dead owner is none of the living
-dead_owns : (n : ℕ) (s : Slots) (o : MaybeId) (d : NodeId) → owner_dead n s o ≡ true → is_live n s d ≡ true → is_id o d ≡ false
-dead_owns n s Absent d e h = refl
-dead_owns n s (Present e') d e h =
+dead_owns : (n : ℕ) (s : Slots) (o : Option NodeId) (d : NodeId) → owner_dead n s o ≡ true → is_live n s d ≡ true → is_id o d ≡ false
+dead_owns n s None d e h = refl
+dead_owns n s (Some e') d e h =
     bool_cases (same_id e' d)
     (λ q.
     let h' : is_live n s e' ≡ true = subst (λ (z : NodeId). is_live n s z ≡ true) (sym (one_id_is_the_other e' d q)) h in
@@ -166,7 +165,7 @@ clearing_leaves_a_live_nodes_field n s (f ∷ fs) d h =
     (λ q.
     let z : owns d f ≡ false = dead_owns n s f.owner d q h in
     rw (q, empty_owns d, z) (I.0, ap (λ (m : ℕ). 0 + m) I.1))
-    (λ q. rw q (ap (λ (m : Maybe Field). cond (owns d f) (just f) m) I.0, ap (λ (m : ℕ). bit (owns d f) + m) I.1))
+    (λ q. rw q (ap (λ (m : Option Field). cond (owns d f) (Some f) m) I.0, ap (λ (m : ℕ). bit (owns d f) + m) I.1))
 
 pub clearing_gives_nobody_a_field : (n : ℕ) (s : Slots) (fs : List Field) (d : NodeId) → owned d (reclaimed n s fs) ≤ owned d fs
 unfolding reclaimed
@@ -191,7 +190,7 @@ clearing_keeps_a_test p e n s fs h = a_test_of_each_is_of_all p (reclaimed n s f
 
 -- ---- a field is claimed
 
-pub a_claimed_field_is_the_nodes : (d : NodeId) (fs : List Field) → 0 < vacants fs → owned d fs ≡ 0 → (field_of d (claimed d fs) ≡ just (own_field d)) × (owned d (claimed d fs) ≡ 1)
+pub a_claimed_field_is_the_nodes : (d : NodeId) (fs : List Field) → 0 < vacants fs → owned d fs ≡ 0 → (field_of d (claimed d fs) ≡ Some (own_field d)) × (owned d (claimed d fs) ≡ 1)
 unfolding field_of claimed
 a_claimed_field_is_the_nodes d [] v z = absurd (omega arith)
 a_claimed_field_is_the_nodes d (f ∷ fs) v z =
@@ -216,7 +215,7 @@ a_claim_leaves_other_nodes_fields d e (f ∷ fs) h =
     let I = a_claim_leaves_other_nodes_fields d e fs h in
     bool_cases (vacant f)
     (λ q. let z : owns e f ≡ false = vacant_owns f e q in rw (q, h, z) (refl, refl))
-    (λ q. rw q (ap (λ (m : Maybe Field). cond (owns e f) (just f) m) I.0, ap (λ (m : ℕ). bit (owns e f) + m) I.1))
+    (λ q. rw q (ap (λ (m : Option Field). cond (owns e f) (Some f) m) I.0, ap (λ (m : ℕ). bit (owns e f) + m) I.1))
 
 pub a_claim_keeps_the_number_of_fields : (d : NodeId) (fs : List Field) → length (claimed d fs) ≡ length fs
 unfolding claimed
@@ -254,26 +253,26 @@ passes_none_owned d (f ∷ fs) e =
     (λ q. let e' : ◌≡◌ {A = Bool} false true = rw q at e in let z : ◌≡◌ {A = ℕ} 0 1 = cc in absurd (omega arith))
     (λ q. let e' : all (λ (g : Field). not (is_id g.owner d)) fs ≡ true = rw q at e in let I = passes_none_owned d fs e' in rw q (omega arith))
 
-abbrev alone_in : List Field → MaybeId → Bool
-alone_in fs Absent = true
-alone_in fs (Present d) = all (λ (g : Field). not (is_id g.owner d)) fs
+abbrev alone_in : List Field → Option NodeId → Bool
+alone_in fs None = true
+alone_in fs (Some d) = all (λ (g : Field). not (is_id g.owner d)) fs
 
-owners_by_owner : (o : MaybeId) (bytes : List ℕ) (len cursor : ℕ) (fs : List Field)
+owners_by_owner : (o : Option NodeId) (bytes : List ℕ) (len cursor : ℕ) (fs : List Field)
     → owners_well (record { owner = o; bytes = bytes; len = len; cursor = cursor } ∷ fs) ≡ (alone_in fs o && owners_well fs)
 unfolding owners_well
-owners_by_owner Absent bytes len cursor fs = refl
-owners_by_owner (Present d) bytes len cursor fs = refl
+owners_by_owner None bytes len cursor fs = refl
+owners_by_owner (Some d) bytes len cursor fs = refl
 
 owners_first : (f : Field) (fs : List Field) → owners_well (f ∷ fs) ≡ (alone_in fs f.owner && owners_well fs)
 owners_first f fs = owners_by_owner f.owner f.bytes f.len f.cursor fs
 
-alone_counts : (o : MaybeId) (fs : List Field) → alone_in fs o ≡ true → (d : NodeId) → is_id o d ≡ true → owned d fs ≡ 0
-alone_counts Absent fs a d e = let z : ◌≡◌ {A = ℕ} 0 1 = cc in absurd (omega arith)
-alone_counts (Present e') fs a d e = subst (λ (x : NodeId). owned x fs ≡ 0) (one_id_is_the_other e' d e) (passes_none_owned e' fs a)
+alone_counts : (o : Option NodeId) (fs : List Field) → alone_in fs o ≡ true → (d : NodeId) → is_id o d ≡ true → owned d fs ≡ 0
+alone_counts None fs a d e = let z : ◌≡◌ {A = ℕ} 0 1 = cc in absurd (omega arith)
+alone_counts (Some e') fs a d e = subst (λ (x : NodeId). owned x fs ≡ 0) (one_id_is_the_other e' d e) (passes_none_owned e' fs a)
 
-counts_alone : (o : MaybeId) (fs : List Field) → ((d : NodeId) → is_id o d ≡ true → owned d fs ≡ 0) → alone_in fs o ≡ true
-counts_alone Absent fs h = refl
-counts_alone (Present e) fs h = none_owned_passes e fs (h e (an_id_is_itself e))
+counts_alone : (o : Option NodeId) (fs : List Field) → ((d : NodeId) → is_id o d ≡ true → owned d fs ≡ 0) → alone_in fs o ≡ true
+counts_alone None fs h = refl
+counts_alone (Some e) fs h = none_owned_passes e fs (h e (an_id_is_itself e))
 
 pub each_id_owns_one_at_most : (fs : List Field) → owners_well fs ≡ true → (d : NodeId) → owned d fs ≤ 1
 each_id_owns_one_at_most [] e d = omega arith
@@ -327,7 +326,7 @@ module _ {X : Type 0} where
       let h = equal_at_each_node_equal_in_sum v w cs r.1 in let h' = equal_at_each_node_equal_in_sum v w sib r.2 in let q = r.0 in omega arith
 
   -- 1 where a node is that of the owner
-  abbrev hers : MaybeId → ℕ → ℕ → X → ℕ
+  abbrev hers : Option NodeId → ℕ → ℕ → X → ℕ
   hers o i g x = bit (is_id o (record { index = i; generation = g }))
 
   -- nodes that own a field, by field
@@ -342,14 +341,14 @@ module _ {X : Type 0} where
       let h = sum_of_both (hers f.owner) (λ i g x. owned (record { index = i; generation = g }) fs) t in
       let h' = count_both fs t in omega arith
 
-  id_none : (d : NodeId) (t : Forest X) → cnt d.index t ≡ 0 → wt (hers (Present d)) t ≡ 0
+  id_none : (d : NodeId) (t : Forest X) → cnt d.index t ≡ 0 → wt (hers (Some d)) t ≡ 0
   id_none d nil z = refl
   id_none d (node i g x cs sib) z =
       eq_cases d.index i
       (λ e s q. let c = δ-same i d.index (sym e) in absurd (omega arith))
       (λ e s q. let h = id_none d cs (omega arith) in let h' = id_none d sib (omega arith) in rw s (omega arith))
 
-  id_count : (d : NodeId) (t : Forest X) → cnt d.index t ≤ 1 → wt (hers (Present d)) t ≡ bit (has_id d t)
+  id_count : (d : NodeId) (t : Forest X) → cnt d.index t ≤ 1 → wt (hers (Some d)) t ≡ bit (has_id d t)
   id_count d nil z = refl
   id_count d (node i g x cs sib) z =
       let b = to_have_an_id_is_to_be_named_by_it d i g in
@@ -366,16 +365,16 @@ module _ {X : Type 0} where
       rw (b, no, no_id_without_its_index d sib (omega arith)) (bool_cases (has_id d cs) (λ w. let h'' = rw w at h' in rw w (omega arith)) (λ w. let h'' = rw w at h' in rw w (omega arith)))))
 
   module _ {n : ℕ} {s : Slots} {free : ℕ} {t : Forest X} {fl : List ℕ} (r : Rel n s free t fl) where
-    one_or_the_other : (o : MaybeId) (bytes : List ℕ) (len cursor : ℕ)
+    one_or_the_other : (o : Option NodeId) (bytes : List ℕ) (len cursor : ℕ)
         → bit (vacant (cond (owner_dead n s o) empty_field (record { owner = o; bytes = bytes; len = len; cursor = cursor }))) + wt (hers o) t ≡ 1
-    one_or_the_other Absent bytes len cursor = let z = sum_of_none t in omega arith
-    one_or_the_other (Present d) bytes len cursor =
+    one_or_the_other None bytes len cursor = let z = sum_of_none t in omega arith
+    one_or_the_other (Some d) bytes len cursor =
         let o = once r d.index in
         let c = id_count d t (omega arith) in
         let l = live_just_where_a_node_has_it r d in
         bool_cases (has_id d t)
-        (λ b. let c' : wt (hers (Present d)) t ≡ 1 = rw b at c in let a : is_live n s d ≡ true = l ∙ b in rw a (omega arith))
-        (λ b. let c' : wt (hers (Present d)) t ≡ 0 = rw b at c in let a : is_live n s d ≡ false = l ∙ b in rw (a, empty_is_vacant) (omega arith))
+        (λ b. let c' : wt (hers (Some d)) t ≡ 1 = rw b at c in let a : is_live n s d ≡ true = l ∙ b in rw a (omega arith))
+        (λ b. let c' : wt (hers (Some d)) t ≡ 0 = rw b at c in let a : is_live n s d ≡ false = l ∙ b in rw (a, empty_is_vacant) (omega arith))
 
     vacant_or_owned : (fs : List Field) → vacants (reclaimed n s fs) + owners fs t ≡ length fs
     unfolding reclaimed
@@ -402,26 +401,26 @@ module _ {X : Type 0} where
 abbrev pub Texted : List Field → ℕ → ℕ → Info → Type 0
 Texted fs i g x = x.text ≡ text_in (field_of (record { index = i; generation = g }) fs)
 
-has_by_field : (x : Info) (m : Maybe Field) → has_field (with_field x (text_in m)) ≡ is_field m
-has_by_field x nothing = refl
-has_by_field x (just f) = refl
+has_by_field : (x : Info) (m : Option Field) → has_field (with_field x (text_in m)) ≡ is_field m
+has_by_field x None = refl
+has_by_field x (Some f) = refl
 
-pub a_node_with_a_text_has_a_field : (x : Info) (m : Maybe Field) → x.text ≡ text_in m → has_field x ≡ is_field m
-a_node_with_a_text_has_a_field x m e = ap (λ (z : Maybe Text). has_field (with_field x z)) e ∙ has_by_field x m
+pub a_node_with_a_text_has_a_field : (x : Info) (m : Option Field) → x.text ≡ text_in m → has_field x ≡ is_field m
+a_node_with_a_text_has_a_field x m e = ap (λ (z : Option Text). has_field (with_field x z)) e ∙ has_by_field x m
 
-pub who_has_no_field_owns_nothing : (d : NodeId) (fs : List Field) → field_of d fs ≡ nothing → owned d fs ≡ 0
+pub who_has_no_field_owns_nothing : (d : NodeId) (fs : List Field) → field_of d fs ≡ None → owned d fs ≡ 0
 unfolding field_of
 who_has_no_field_owns_nothing d [] e = refl
 who_has_no_field_owns_nothing d (f ∷ fs) e =
     bool_cases (owns d f)
-    (λ q. let e' : just f ≡ nothing = sym (rw q) ∙ e in let z : ◌≡◌ {A = ℕ} 0 1 = cc in absurd (omega arith))
-    (λ q. let e' : first_field (owns d) fs ≡ nothing = sym (rw q) ∙ e in let I = who_has_no_field_owns_nothing d fs e' in rw q (omega arith))
+    (λ q. let e' : Some f ≡ None = sym (rw q) ∙ e in let z : ◌≡◌ {A = ℕ} 0 1 = cc in absurd (omega arith))
+    (λ q. let e' : first_field (owns d) fs ≡ None = sym (rw q) ∙ e in let I = who_has_no_field_owns_nothing d fs e' in rw q (omega arith))
 
 module _ {n : ℕ} {s : Slots} {free : ℕ} {t : Forest Info} {fl : List ℕ} (r : Rel n s free t fl) where
   -- 8 live nodes with a field, or a vacant one
   pub a_field_is_vacant_or_every_field_is_a_live_nodes {ℓ} : {G : Type ℓ} (fs : List Field) → owners_well fs ≡ true → AllF (Texted fs) t
-      → (first_field vacant (reclaimed n s fs) ≡ nothing → wt (λ i g x. bit (has_field x)) t ≡ length fs → G)
-      → ((f : Field) → first_field vacant (reclaimed n s fs) ≡ just f → wt (λ i g x. bit (has_field x)) t < length fs → G) → G
+      → (first_field vacant (reclaimed n s fs) ≡ None → wt (λ i g x. bit (has_field x)) t ≡ length fs → G)
+      → ((f : Field) → first_field vacant (reclaimed n s fs) ≡ Some f → wt (λ i g x. bit (has_field x)) t < length fs → G) → G
   a_field_is_vacant_or_every_field_is_a_live_nodes {G = G} fs ow tx none some = go (first_field vacant (reclaimed n s fs)) refl
     where
       sum : vacants (reclaimed n s fs) + wt (λ i g x. bit (has_field x)) t ≡ length fs
@@ -429,9 +428,9 @@ module _ {n : ℕ} {s : Slots} {free : ℕ} {t : Forest Info} {fl : List ℕ} (r
           (all_map (Texted fs) (λ i g x. has_field x ≡ is_field (field_of (record { index = i; generation = g }) fs)) t
           (λ i g x _ q. a_node_with_a_text_has_a_field x (field_of (record { index = i; generation = g }) fs) q) tx)
 
-      go : (m : Maybe Field) → first_field vacant (reclaimed n s fs) ≡ m → G
-      go nothing e = let v = no_vacant_field_is_found (reclaimed n s fs) e in let w = sum in none e (omega arith)
-      go (just f) e = let v = a_vacant_field_is_found (reclaimed n s fs) f e in let w = sum in some f e (omega arith)
+      go : (m : Option Field) → first_field vacant (reclaimed n s fs) ≡ m → G
+      go None e = let v = no_vacant_field_is_found (reclaimed n s fs) e in let w = sum in none e (omega arith)
+      go (Some f) e = let v = a_vacant_field_is_found (reclaimed n s fs) f e in let w = sum in some f e (omega arith)
 
   -- what the nodes' ids are
   nodes_ids_are_live : AllF (λ i g x. is_live n s (record { index = i; generation = g }) ≡ true) t
@@ -440,11 +439,11 @@ module _ {n : ℕ} {s : Slots} {free : ℕ} {t : Forest Info} {fl : List ℕ} (r
       (λ i g x c q. subst (λ (m : ℕ). is_live n s (record { index = i; generation = m }) ≡ true) q.0 (live_just_where_a_node_has_it r (id_at s i) ∙ slots_id_is_live r i c))
       (nodes_have_their_slots_generation r)
 
-  pub a_field_made_is_an_empty_text : (fs : List Field) (d : NodeId) → has_id d t ≡ true → field_of d fs ≡ nothing → (f : Field) → first_field vacant (reclaimed n s fs) ≡ just f
-      → AllF (Texted fs) t → AllF (Texted (claimed d (reclaimed n s fs))) (change_of d (λ x. with_field x (just (text [] []))) t)
+  pub a_field_made_is_an_empty_text : (fs : List Field) (d : NodeId) → has_id d t ≡ true → field_of d fs ≡ None → (f : Field) → first_field vacant (reclaimed n s fs) ≡ Some f
+      → AllF (Texted fs) t → AllF (Texted (claimed d (reclaimed n s fs))) (change_of d (λ x. with_field x (Some (text [] []))) t)
   a_field_made_is_an_empty_text fs d live none f some tx =
       let R : List Field = reclaimed n s fs in
-      let u : ℕ → ℕ → Info → Info = λ i g x. cond (has_both d i g) (with_field x (just (text [] []))) x in
+      let u : ℕ → ℕ → Info → Info = λ i g x. cond (has_both d i g) (with_field x (Some (text [] []))) x in
       let L : ℕ → ℕ → Info → Type 0 = λ i g x. is_live n s (record { index = i; generation = g }) ≡ true in
       let ld : is_live n s d ≡ true = live_just_where_a_node_has_it r d ∙ live in
       let z : owned d R ≡ 0 = (clearing_leaves_a_live_nodes_field n s fs d ld).1 ∙ who_has_no_field_owns_nothing d fs none in
@@ -454,22 +453,22 @@ module _ {n : ℕ} {s : Slots} {free : ℕ} {t : Forest Info} {fl : List ℕ} (r
       let e : NodeId = record { index = i; generation = g } in
       let h = to_have_an_id_is_to_be_named_by_it d i g in
       bool_cases (same_id d e)
-      (λ b. subst (λ (c : Bool). Texted (claimed d R) i g (cond c (with_field x (just (text [] []))) x)) (sym (h ∙ b))
-      (subst (λ (y : NodeId). just (text [] []) ≡ text_in (field_of y (claimed d R))) (one_id_is_the_other d e b)
-      (sym (ap text_in own ∙ ap (λ (y : Text). just y) (a_nodes_new_field_has_no_text d)))))
-      (λ b. subst (λ (c : Bool). Texted (claimed d R) i g (cond c (with_field x (just (text [] []))) x)) (sym (h ∙ b))
+      (λ b. subst (λ (c : Bool). Texted (claimed d R) i g (cond c (with_field x (Some (text [] []))) x)) (sym (h ∙ b))
+      (subst (λ (y : NodeId). Some (text [] []) ≡ text_in (field_of y (claimed d R))) (one_id_is_the_other d e b)
+      (sym (ap text_in own ∙ ap (λ (y : Text). Some y) (a_nodes_new_field_has_no_text d)))))
+      (λ b. subst (λ (c : Bool). Texted (claimed d R) i g (cond c (with_field x (Some (text [] []))) x)) (sym (h ∙ b))
       (q.0 ∙ ap text_in (sym ((a_claim_leaves_other_nodes_fields d e R b).0 ∙ (clearing_leaves_a_live_nodes_field n s fs e q.1).0)))))
       (all_both (Texted fs) L t tx nodes_ids_are_live))
 
 -- ---- an edit of a node's field, which keeps the owner
 
-abbrev pub edit_in : (Field → Field) → Maybe Field → Maybe Field
-edit_in c nothing = nothing
-edit_in c (just f) = just (c f)
+abbrev pub edit_in : (Field → Field) → Option Field → Option Field
+edit_in c None = None
+edit_in c (Some f) = Some (c f)
 
 module _ (c : Field → Field) (keeps : (f : Field) → (c f).owner ≡ f.owner) (d : NodeId) where
   owns_edited : (e : NodeId) (f : Field) → owns e (c f) ≡ owns e f
-  owns_edited e f = ap (λ (o : MaybeId). is_id o e) (keeps f)
+  owns_edited e f = ap (λ (o : Option NodeId). is_id o e) (keeps f)
 
   pub an_edit_is_of_the_nodes_field : (fs : List Field) → field_of d (change_first (owns d) c fs) ≡ edit_in c (field_of d fs)
   unfolding field_of
@@ -485,11 +484,11 @@ module _ (c : Field → Field) (keeps : (f : Field) → (c f).owner ≡ f.owner)
   an_edit_leaves_other_nodes_fields e (f ∷ fs) h =
       bool_cases (owns d f)
       (λ b. let z = not_hers f.owner e b h in rw (b, owns_edited e f, z))
-      (λ b. rw b (ap (λ (m : Maybe Field). cond (owns e f) (just f) m) (an_edit_leaves_other_nodes_fields e fs h)))
+      (λ b. rw b (ap (λ (m : Option Field). cond (owns e f) (Some f) m) (an_edit_leaves_other_nodes_fields e fs h)))
     where
-      not_hers : (o : MaybeId) (e : NodeId) → is_id o d ≡ true → same_id d e ≡ false → is_id o e ≡ false
-      not_hers Absent e b h = refl
-      not_hers (Present x) e b h = ap (λ (y : NodeId). same_id y e) (one_id_is_the_other x d b) ∙ h
+      not_hers : (o : Option NodeId) (e : NodeId) → is_id o d ≡ true → same_id d e ≡ false → is_id o e ≡ false
+      not_hers None e b h = refl
+      not_hers (Some x) e b h = ap (λ (y : NodeId). same_id y e) (one_id_is_the_other x d b) ∙ h
 
   pub an_edit_keeps_what_each_id_owns : (e : NodeId) (fs : List Field) → owned e (change_first (owns d) c fs) ≡ owned e fs
   an_edit_keeps_what_each_id_owns e [] = refl

@@ -1,4 +1,5 @@
 -- Fields made and edited, as texts of nodes: only texts change, so looks and names are kept. Assumes nothing.
+use Rattle.std.specs.Prelude.{None, Option, Some}
 use mathlib.Core.Path.{◌≡◌, refl, sym, ap, subst, ◌∙◌}
 use mathlib.Core.Bool.{Bool, true, false, cond}
 use mathlib.Core.List.{List, [], ◌∷◌}
@@ -10,7 +11,7 @@ use Rattle.field.specs.Fields.{empty_field, field_ok, text_of}
 use Rattle.field.specs.declared.NodeId.{NodeId}
 use Rattle.field.specs.declared.Field.{Field}
 use Rattle.field.proofs.Laws.{empty_field_keeps_the_rules}
-use Rattle.arithmetic.specs.Tests.{occ, Maybe, nothing, just}
+use Rattle.arithmetic.specs.Tests.{occ}
 use Rattle.arena.specs.Slots.{Slots, is_live, nobody, same_id}
 use Rattle.boxes.specs.Styles.{layout_at}
 use Rattle.boxes.specs.States.{entry_of}
@@ -36,11 +37,11 @@ equal_at_each_node v w (node i g x cs sib) h =
     λ z. node i g (h.0 z) (a z) (b z)
 
 -- some nodes get another text
-module _ (b : ℕ → ℕ → Info → Bool) (y : Info → Maybe Text) where
+module _ (b : ℕ → ℕ → Info → Bool) (y : Info → Option Text) where
   abbrev pub retexted : ℕ → ℕ → Info → Info
   retexted i g x = cond (b i g x) (with_field x (y x)) x
 
-  pub what_texts_leave_alone : (P : ℕ → ℕ → Info → Type 0) → ((i g : ℕ) (x : Info) (z : Maybe Text) → P i g x → P i g (with_field x z)) → (t : Forest Info) → AllF P t → AllF P (map_f retexted t)
+  pub what_texts_leave_alone : (P : ℕ → ℕ → Info → Type 0) → ((i g : ℕ) (x : Info) (z : Option Text) → P i g x → P i g (with_field x z)) → (t : Forest Info) → AllF P t → AllF P (map_f retexted t)
   what_texts_leave_alone P h t a =
       all_map_f P retexted t (all_map P (λ i g x. P i g (retexted i g x)) t
       (λ i g x _ p. bool_cases (b i g x) (λ e. rw e (h i g x (y x) p)) (λ e. rw e p)) a)
@@ -67,13 +68,13 @@ module _ (b : ℕ → ℕ → Info → Bool) (y : Info → Maybe Text) where
 -- ---- an edit
 
 -- a field that is found is one of them
-pub found_field_is_ruled : (P : Field → Type 0) (d : NodeId) (fs : List Field) (f : Field) → AllFields P fs → field_of d fs ≡ just f → P f
+pub found_field_is_ruled : (P : Field → Type 0) (d : NodeId) (fs : List Field) (f : Field) → AllFields P fs → field_of d fs ≡ Some f → P f
 unfolding field_of
 found_field_is_ruled P d [] f a e = let z : ◌≡◌ {A = ℕ} 0 1 = cc in absurd (omega arith)
 found_field_is_ruled P d (g ∷ fs) f a e =
     bool_cases (owns d g)
-    (λ b. let q : just g ≡ just f = sym (rw b) ∙ e in let r : g ≡ f = cc in subst P r a.0)
-    (λ b. let q : first_field (owns d) fs ≡ just f = sym (rw b) ∙ e in found_field_is_ruled P d fs f a.1 q)
+    (λ b. let q : Some g ≡ Some f = sym (rw b) ∙ e in let r : g ≡ f = cc in subst P r a.0)
+    (λ b. let q : first_field (owns d) fs ≡ Some f = sym (rw b) ∙ e in found_field_is_ruled P d fs f a.1 q)
 
 -- where no node has an id, none is it
 pub no_node_is_a_dead_id : (d : NodeId) (t : Forest Info) → has_id d t ≡ false → AllF (λ i g x. same_id d (record { index = i; generation = g }) ≡ false) t
@@ -88,7 +89,7 @@ no_node_is_a_dead_id d (node i g x cs sib) e =
 
 module _ (s : Slots) (t : Forest Info) (fs : List Field) (x₀ : Texts s fs t) (d : NodeId) (c : Field → Field) (w : Text → Text)
     (b : ℕ → ℕ → Info → Bool) (is_d : AllF (λ i g x. same_id d (record { index = i; generation = g }) ≡ b i g x) t)
-    (M : Maybe Text → Maybe Text) (M-none : M nothing ≡ nothing) (M-some : (z : Text) → M (just z) ≡ just (w z)) where
+    (M : Option Text → Option Text) (M-none : M None ≡ None) (M-some : (z : Text) → M (Some z) ≡ Some (w z)) where
   abbrev pub texted : Forest Info
   texted = map_f (retexted b (λ x. M x.text)) t
 
@@ -115,11 +116,11 @@ module _ (s : Slots) (t : Forest Info) (fs : List Field) (x₀ : Texts s fs t) (
       fs' : List Field
       fs' = change_first (owns d) c fs
 
-      found : (m : Maybe Field) → field_of d fs ≡ m → M (text_in m) ≡ text_in (edit_in c m)
-      found nothing e = M-none
-      found (just f) e =
+      found : (m : Option Field) → field_of d fs ≡ m → M (text_in m) ≡ text_in (edit_in c m)
+      found None e = M-none
+      found (Some f) e =
           let r = found_field_is_ruled (Ruled s t) d fs f x₀.ruled e in
-          M-some (text_of f) ∙ ap (λ (z : Text). just z) (sym (rules f r.0 r.1).2)
+          M-some (text_of f) ∙ ap (λ (z : Text). Some z) (sym (rules f r.0 r.1).2)
 
       one : (i g : ℕ) (x : Info) → x.text ≡ text_in (field_of (record { index = i; generation = g }) fs) → same_id d (record { index = i; generation = g }) ≡ b i g x
           → (cond (b i g x) (with_field x (M x.text)) x).text ≡ text_in (field_of (record { index = i; generation = g }) fs')
@@ -132,31 +133,31 @@ module _ (s : Slots) (t : Forest Info) (fs : List Field) (x₀ : Texts s fs t) (
           (λ k. rw k (tx ∙ ap text_in (sym (an_edit_leaves_other_nodes_fields c keeps d (record { index = i; generation = g }) fs (e ∙ k)))))
 
   -- there was none to edit
-  pub no_edit_keeps_texts : AllF (λ i g x. b i g x ≡ true → x.text ≡ nothing) t → Texts s fs texted
+  pub no_edit_keeps_texts : AllF (λ i g x. b i g x ≡ true → x.text ≡ None) t → Texts s fs texted
   no_edit_keeps_texts none = record {
     eight = x₀.eight;
     ruled = ruled_by_shape t texted texted_shape s fs x₀.ruled;
     owners = x₀.owners;
     texts = all_map_f (λ i g x. x.text ≡ text_in (field_of (record { index = i; generation = g }) fs)) (retexted b (λ x. M x.text)) t
-        (all_map (λ i g x. (x.text ≡ text_in (field_of (record { index = i; generation = g }) fs)) × (b i g x ≡ true → x.text ≡ nothing))
+        (all_map (λ i g x. (x.text ≡ text_in (field_of (record { index = i; generation = g }) fs)) × (b i g x ≡ true → x.text ≡ None))
         (λ i g x. (retexted b (λ y. M y.text) i g x).text ≡ text_in (field_of (record { index = i; generation = g }) fs)) t
         (λ i g x _ q. bool_cases (b i g x)
         (λ k. let e = q.1 k in rw k (ap M e ∙ M-none ∙ sym e ∙ q.0))
         (λ k. rw k q.0))
-        (all_both (λ i g x. x.text ≡ text_in (field_of (record { index = i; generation = g }) fs)) (λ i g x. b i g x ≡ true → x.text ≡ nothing) t x₀.texts none));
+        (all_both (λ i g x. x.text ≡ text_in (field_of (record { index = i; generation = g }) fs)) (λ i g x. b i g x ≡ true → x.text ≡ None) t x₀.texts none));
   }
 
   pub no_edit_of_a_dead_id : has_id d t ≡ false → Texts s fs texted
   no_edit_of_a_dead_id h =
       no_edit_keeps_texts (all_map (λ i g x. (same_id d (record { index = i; generation = g }) ≡ b i g x) × (same_id d (record { index = i; generation = g }) ≡ false))
-      (λ i g x. b i g x ≡ true → x.text ≡ nothing) t
+      (λ i g x. b i g x ≡ true → x.text ≡ None) t
       (λ i g x _ q k. let z : false ≡ true = sym q.1 ∙ q.0 ∙ k in let y : ◌≡◌ {A = ℕ} 0 1 = cc in absurd (omega arith))
       (all_both (λ i g x. same_id d (record { index = i; generation = g }) ≡ b i g x) (λ i g x. same_id d (record { index = i; generation = g }) ≡ false) t is_d (no_node_is_a_dead_id d t h)))
 
-  pub no_edit_without_a_field : field_of d fs ≡ nothing → Texts s fs texted
+  pub no_edit_without_a_field : field_of d fs ≡ None → Texts s fs texted
   no_edit_without_a_field h =
       no_edit_keeps_texts (all_map (λ i g x. (same_id d (record { index = i; generation = g }) ≡ b i g x) × (x.text ≡ text_in (field_of (record { index = i; generation = g }) fs)))
-      (λ i g x. b i g x ≡ true → x.text ≡ nothing) t
+      (λ i g x. b i g x ≡ true → x.text ≡ None) t
       (λ i g x _ q k. let e = one_id_is_the_other d (record { index = i; generation = g }) (q.0 ∙ k) in q.1 ∙ ap (λ (z : NodeId). text_in (field_of z fs)) (sym e) ∙ ap text_in h)
       (all_both (λ i g x. same_id d (record { index = i; generation = g }) ≡ b i g x) (λ i g x. x.text ≡ text_in (field_of (record { index = i; generation = g }) fs)) t is_d x₀.texts))
 
@@ -170,7 +171,7 @@ unchanged_at_each_node v (node i g x cs sib) h =
     λ z. node i g (h.0 z) (a z) (b z)
 
 module _ (k : ℕ) (u : Ui) (t : Forest Info) (l : Links k u t) (x₀ : Texts u.slots u.fields t) (d : NodeId) (live : has_id d t ≡ true)
-    (K : Maybe Text → Maybe Text) (K-none : K nothing ≡ just (text [] [])) (K-some : (z : Text) → K (just z) ≡ just z) where
+    (K : Option Text → Option Text) (K-none : K None ≡ Some (text [] [])) (K-some : (z : Text) → K (Some z) ≡ Some z) where
   abbrev pub kept : Forest Info
   kept = change_of d (λ x. with_field x (K x.text)) t
 
@@ -182,13 +183,13 @@ module _ (k : ℕ) (u : Ui) (t : Forest Info) (l : Links k u t) (x₀ : Texts u.
       let e = one_id_is_the_other d (record { index = i; generation = g }) (sym (to_have_an_id_is_to_be_named_by_it d i g) ∙ b) in
       q ∙ ap (λ (z : NodeId). text_in (field_of z u.fields)) (sym e)) x₀.texts
 
-  pub a_field_stays : (f : Field) → field_of d u.fields ≡ just f → kept ≡ t
+  pub a_field_stays : (f : Field) → field_of d u.fields ≡ Some f → kept ≡ t
   a_field_stays f e =
       unchanged_at_each_node (λ i g x. cond (has_both d i g) (with_field x (K x.text)) x) t
       (all_map (λ i g x. has_both d i g ≡ true → x.text ≡ text_in (field_of d u.fields)) (λ i g x. cond (has_both d i g) (with_field x (K x.text)) x ≡ x) t
       (λ i g x _ q. bool_cases (has_both d i g)
       (λ b.
-      let y : x.text ≡ just (text_of f) = q b ∙ ap text_in e in
+      let y : x.text ≡ Some (text_of f) = q b ∙ ap text_in e in
       let z : K x.text ≡ x.text = ap K y ∙ K-some (text_of f) ∙ sym y in
       rw b (ap (with_field x) z))
       (λ b. rw b)) text_of_the_node)
@@ -196,14 +197,14 @@ module _ (k : ℕ) (u : Ui) (t : Forest Info) (l : Links k u t) (x₀ : Texts u.
   abbrev pub made : List Field
   made = claimed d (reclaimed (limit_of u) u.slots u.fields)
 
-  pub a_field_is_made : (f : Field) → field_of d u.fields ≡ nothing → first_field vacant (reclaimed (limit_of u) u.slots u.fields) ≡ just f → Texts u.slots made kept
+  pub a_field_is_made : (f : Field) → field_of d u.fields ≡ None → first_field vacant (reclaimed (limit_of u) u.slots u.fields) ≡ Some f → Texts u.slots made kept
   unfolding empty_field
   a_field_is_made f none some =
       let R : List Field = reclaimed (limit_of u) u.slots u.fields in
-      let e : kept ≡ change_of d (λ x. with_field x (just (text [] []))) t =
-      equal_at_each_node (λ i g x. cond (has_both d i g) (with_field x (K x.text)) x) (λ i g x. cond (has_both d i g) (with_field x (just (text [] []))) x) t
+      let e : kept ≡ change_of d (λ x. with_field x (Some (text [] []))) t =
+      equal_at_each_node (λ i g x. cond (has_both d i g) (with_field x (K x.text)) x) (λ i g x. cond (has_both d i g) (with_field x (Some (text [] []))) x) t
       (all_map (λ i g x. has_both d i g ≡ true → x.text ≡ text_in (field_of d u.fields))
-      (λ i g x. cond (has_both d i g) (with_field x (K x.text)) x ≡ cond (has_both d i g) (with_field x (just (text [] []))) x) t
+      (λ i g x. cond (has_both d i g) (with_field x (K x.text)) x ≡ cond (has_both d i g) (with_field x (Some (text [] []))) x) t
       (λ i g x _ q. bool_cases (has_both d i g)
       (λ b. rw b (ap (with_field x) (ap K (q b ∙ ap text_in none) ∙ K-none)))
       (λ b. rw b)) text_of_the_node) in

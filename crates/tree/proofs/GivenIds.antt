@@ -1,15 +1,13 @@
 -- An id that was given has a generation below its slot's epoch. So it stays given while no epoch falls, and it is not the id of a free
 -- slot, whose generation is the epoch: a free slot's id has no field. Assumes nothing.
+use Rattle.std.specs.Prelude.{None, Option, Some}
 use mathlib.Core.Path.{◌≡◌, refl}
 use mathlib.Core.Bool.{false}
 use mathlib.Core.List.{List, [], ◌∷◌}
 use Prim.Native.Nat.{ℕ, ◌+◌, ◌≤◌, ◌<◌}
 use native.Mathlib.Omega.{arith}
 use Rattle.field.specs.declared.NodeId.{NodeId}
-use Rattle.field.specs.declared.MaybeId.{MaybeId}
-use Rattle.field.specs.declared.MaybeId.TheVariants.{Absent, Present}
 use Rattle.field.specs.declared.Field.{Field}
-use Rattle.arithmetic.specs.Tests.{nothing}
 use Rattle.arena.specs.Forest.{Forest}
 use Rattle.boxes.specs.Nodes.{Info}
 use Rattle.arena.specs.Slots.{Slots, at, id_at, is_id}
@@ -26,9 +24,9 @@ module _ (a : Slots) (t : Forest Info) (b : Slots) (t' : Forest Info) (h : NoEpo
   pub given_ids_stay_given : (d : NodeId) → Below a t d → Below b t' d
   given_ids_stay_given d q = let e = h d.index in omega arith
 
-  pub given_owners_stay_given : (o : MaybeId) → BelowMaybe a t o → BelowMaybe b t' o
-  given_owners_stay_given Absent q = tt
-  given_owners_stay_given (Present d) q = given_ids_stay_given d q
+  pub given_owners_stay_given : (o : Option NodeId) → BelowMaybe a t o → BelowMaybe b t' o
+  given_owners_stay_given None q = tt
+  given_owners_stay_given (Some d) q = given_ids_stay_given d q
 
   pub ruled_fields_stay_ruled : (fs : List Field) → AllFields (Ruled a t) fs → AllFields (Ruled b t') fs
   ruled_fields_stay_ruled fs q = what_follows_of_each {P = Ruled a t} {Q = Ruled b t'} (λ f r. (r.0, r.1, given_owners_stay_given f.owner r.2)) fs q
@@ -38,9 +36,9 @@ module _ (a : Slots) (t : Forest Info) (i : ℕ) (z : cnt i t ≡ 0) where
   a_given_id_is_not_a_free_slots d q e =
       let q' : (at a i).generation < (at a i).generation + cnt i t = rw e at q in omega arith
 
-  pub a_given_owner_is_not_a_free_slots_id : (o : MaybeId) → BelowMaybe a t o → is_id o (id_at a i) ≡ false
-  a_given_owner_is_not_a_free_slots_id Absent q = refl
-  a_given_owner_is_not_a_free_slots_id (Present d) q =
+  pub a_given_owner_is_not_a_free_slots_id : (o : Option NodeId) → BelowMaybe a t o → is_id o (id_at a i) ≡ false
+  a_given_owner_is_not_a_free_slots_id None q = refl
+  a_given_owner_is_not_a_free_slots_id (Some d) q =
       eq_cases d.index i
       (λ e s _.
       let e' : (at a d.index).generation ≡ (at a i).generation = rw e in
@@ -48,7 +46,7 @@ module _ (a : Slots) (t : Forest Info) (i : ℕ) (z : cnt i t ≡ 0) where
       rw (s, same_no d.generation (at a i).generation (λ w. omega arith)))
       (λ e s _. rw s)
 
-  pub a_free_slots_id_has_no_field : (fs : List Field) → AllFields (Ruled a t) fs → field_of (id_at a i) fs ≡ nothing
+  pub a_free_slots_id_has_no_field : (fs : List Field) → AllFields (Ruled a t) fs → field_of (id_at a i) fs ≡ None
   unfolding field_of
   a_free_slots_id_has_no_field [] q = refl
   a_free_slots_id_has_no_field (f ∷ fs) q = rw (a_given_owner_is_not_a_free_slots_id f.owner q.0.2) (a_free_slots_id_has_no_field fs q.1)

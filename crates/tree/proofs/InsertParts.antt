@@ -1,5 +1,6 @@
 -- An insertion keeps every part: one node more, in the first free slot, with the slot's layout and state as new. Its id is that of the
 -- free slot, whose generation is the slot's epoch, so it was never given and no field is its own. Assumes nothing.
+use Rattle.std.specs.Prelude.{Option}
 use mathlib.Core.Path.{◌≡◌, refl, sym, ap, ◌∙◌}
 use mathlib.Core.Logic.{◌≢◌}
 use mathlib.Core.Bool.{true}
@@ -10,7 +11,6 @@ use native.Mathlib.Decide.{dec_lt}
 use lib.ListN.{length, get_or, set, length-set, length-append, get_or-append}
 use lib.Seq.{get_or_at}
 use Rattle.field.specs.declared.NodeId.{NodeId}
-use Rattle.field.specs.declared.MaybeId.{MaybeId}
 use Rattle.arithmetic.specs.Tests.{δ, occ}
 use Rattle.arena.specs.Forest.{Forest, nil, node, app, has_id, kids_of, set_kids_of, size}
 use Rattle.boxes.specs.Nodes.{Info, new_info}
@@ -81,7 +81,7 @@ module _ {k : ℕ} {u : Ui} {t : Forest Info} (L : Links k u t) (d : NodeId) (h 
   pub insert_keeps_below : (e : NodeId) → Below u.slots t e → Below (insert_at u d.index).slots (with_child u d m t) e
   insert_keeps_below = given_ids_stay_given u.slots t (insert_at u d.index).slots (with_child u d m t) no_epoch_falls_by_an_insertion
 
-  pub insert_keeps_below_maybe : (o : MaybeId) → BelowMaybe u.slots t o → BelowMaybe (insert_at u d.index).slots (with_child u d m t) o
+  pub insert_keeps_below_maybe : (o : Option NodeId) → BelowMaybe u.slots t o → BelowMaybe (insert_at u d.index).slots (with_child u d m t) o
   insert_keeps_below_maybe = given_owners_stay_given u.slots t (insert_at u d.index).slots (with_child u d m t) no_epoch_falls_by_an_insertion
 
   pub insert_keeps_links : Links (suc k) (insert_at u d.index) (with_child u d m t)

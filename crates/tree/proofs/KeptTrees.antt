@@ -1,5 +1,6 @@
 -- A tree that is not broken, with arrays of their lengths, in parts: limit, links, looks, stated slots, pool, queue, fields. Each part reads
 -- its own share of the tree, so that a call's law is about what it changes; the calls that leave the links alone keep every part. Assumes nothing.
+use Rattle.std.specs.Prelude.{Option, None}
 use mathlib.Core.Path.{◌≡◌, refl, sym, subst, ◌∙◌}
 use mathlib.Core.Bool.{true, false}
 use mathlib.Core.List.{List, ◌++◌}
@@ -9,10 +10,9 @@ use lib.ListN.{length, take, drop, length-append, length-drop}
 use Rattle.text.specs.Refusal.{Answer}
 use Rattle.field.specs.Fields.{empty_field, field_ok}
 use Rattle.field.specs.declared.NodeId.{NodeId}
-use Rattle.field.specs.declared.MaybeId.{MaybeId}
 use Rattle.field.specs.declared.Field.{Field}
 use Rattle.field.proofs.Laws.{empty_field_keeps_the_rules}
-use Rattle.arithmetic.specs.Tests.{all, from_to, nothing}
+use Rattle.arithmetic.specs.Tests.{all, from_to}
 use Rattle.arithmetic.proofs.BoolLaws.{pick_of}
 use Rattle.arena.specs.Slots.{Slots, is_live, backwards}
 use Rattle.boxes.specs.States.{Appearance, in_pool}
@@ -155,7 +155,7 @@ module _ {u : Ui} (k : Kept u) where
       }
 
   -- the bits refreshed
-  pub a_refresh_keeps_the_tree : (hover : MaybeId) → Kept (refreshed u hover)
+  pub a_refresh_keeps_the_tree : (hover : Option NodeId) → Kept (refreshed u hover)
   unfolding refreshed with_stated with_styles
   a_refresh_keeps_the_tree hover =
       let m = k.links.small in
@@ -216,7 +216,7 @@ module _ {u : Ui} (k : Kept u) where
   }
 
   -- a field made
-  pub a_field_made_keeps_the_tree : (d : NodeId) → is_live (limit_of u) u.slots d ≡ true → field_of d u.fields ≡ nothing
+  pub a_field_made_keeps_the_tree : (d : NodeId) → is_live (limit_of u) u.slots d ≡ true → field_of d u.fields ≡ None
       → Kept (with_fields u (claimed d (reclaimed (limit_of u) u.slots u.fields)))
   unfolding empty_field
   a_field_made_keeps_the_tree d live none =

@@ -1,5 +1,6 @@
 -- What a call on a node gives where it is refused at once, and where it is not; and what a tree that is not broken has. Assumes nothing.
-use mathlib.Core.Path.{◌≡◌, refl, sym, ap, ◌∙◌}
+use Rattle.std.specs.Prelude.{Err, Ok, Result}
+use mathlib.Core.Path.{◌≡◌, refl, sym, ◌∙◌}
 use mathlib.Core.Bool.{Bool, true, false, ◌&&◌}
 use mathlib.Core.List.{List, [], ◌∷◌, ◌++◌}
 use Prim.Native.Nat.{ℕ, zero, suc, ◌+◌, ◌≤◌, ◌<◌}
@@ -9,7 +10,6 @@ use lib.Dec.{ltb}
 use lib.ListN.{length}
 use Rattle.text.specs.declared.refusal.Refusal.{Refusal}
 use Rattle.text.specs.declared.refusal.Refusal.TheVariants.{Broken, Missing}
-use Rattle.text.specs.declared.refusal.Verdict.TheVariants.{Accepted, Refused}
 use Rattle.field.specs.declared.NodeId.{NodeId}
 use Rattle.arithmetic.specs.Tests.{same, all, occ, head_or, from_to}
 use Rattle.arena.specs.Slots.{Slots, NIL, at, is_live, order, chain, kids_at}
@@ -23,34 +23,34 @@ use Rattle.arithmetic.proofs.TestLaws.{bool_cases, eq_cases}
 use Rattle.arithmetic.proofs.BoolLaws.{no_more}
 use Rattle.tree.proofs.RuleParts.{Rules, a_tree_not_broken_keeps_each_rule}
 
-word_is : (v w : Refusal) → Refused v ≡ Refused w → v ≡ w
+word_is : (v w : Refusal) → ◌≡◌ {A = Result Unit Refusal} (Err v) (Err w) → v ≡ w
 word_is v w e = cc
 
-not_both : {G : Type 0} (w : Refusal) → Accepted ≡ Refused w → G
-not_both w e = let z : ◌≡◌ {A = ℕ} 0 1 = cc in absurd (omega arith)
+not_both : {G : Type 0} (w : Refusal) → ◌≡◌ {A = Result Unit Refusal} (Ok tt) (Err w) → G
+not_both w e = cc
 
 module _ (u : Ui) (d : NodeId) where
-  pub refused_at_once : {A : Type 0} (none : A) (o : Outcome A) (word : Refusal) → precheck u d ≡ Refused word → refuses u word none ≡ on_live u d none o
+  pub refused_at_once : {A : Type 0} (none : A) (o : Outcome A) (word : Refusal) → precheck u d ≡ Err word → on_live u d none o ≡ refuses u word none
   unfolding precheck on_live guarded
   refused_at_once none o word e =
       bool_cases (broken u)
-      (λ b. let q : Broken ≡ word = word_is Broken word (rw b at e) in rw b (ap (λ (w : Refusal). refuses u w none) (sym q)))
+      (λ b. let q : word ≡ Broken = sym (word_is Broken word (rw b at e)) in rw (b, q))
       (λ b. bool_cases (is_live (limit_of u) u.slots d)
       (λ l. not_both word (rw (b, l) at e))
-      (λ l. let q : Missing ≡ word = word_is Missing word (rw (b, l) at e) in rw (b, l) (ap (λ (w : Refusal). refuses u w none) (sym q))))
+      (λ l. let q : word ≡ Missing = sym (word_is Missing word (rw (b, l) at e)) in rw (b, l, q)))
 
-  pub not_refused : {A : Type 0} (none : A) (o : Outcome A) → precheck u d ≡ Accepted → o ≡ on_live u d none o
+  pub not_refused : {A : Type 0} (none : A) (o : Outcome A) → precheck u d ≡ (Ok tt) → on_live u d none o ≡ o
   unfolding precheck on_live guarded
   not_refused none o e =
       bool_cases (broken u)
       (λ b. not_both Broken (sym (rw b at e)))
       (λ b. bool_cases (is_live (limit_of u) u.slots d) (λ l. rw (b, l)) (λ l. not_both Missing (sym (rw (b, l) at e))))
 
-  pub not_broken : precheck u d ≡ Accepted → broken u ≡ false
+  pub not_broken : precheck u d ≡ (Ok tt) → broken u ≡ false
   unfolding precheck
   not_broken e = bool_cases (broken u) (λ b. not_both Broken (sym (rw b at e))) (λ b. b)
 
-  pub lives : precheck u d ≡ Accepted → is_live (limit_of u) u.slots d ≡ true
+  pub lives : precheck u d ≡ (Ok tt) → is_live (limit_of u) u.slots d ≡ true
   unfolding precheck
   lives e = bool_cases (is_live (limit_of u) u.slots d) (λ l. l) (λ l. not_both Missing (sym (rw (not_broken e, l) at e)))
 
@@ -123,3 +123,11 @@ module _ (u : Ui) (b : broken u ≡ false) where
       eq_cases u.free (head_or NIL free)
       (λ q _ _. let r = head_inside (limit_of u) free a (λ z. h (q ∙ z)) in omega arith)
       (λ _ n _. no_more (sym n ∙ parts.1))
+
+-- the slot of a live node is one of the 128
+pub a_live_id_is_inside : (u : Ui) (d : NodeId) → precheck u d ≡ (Ok tt) → d.index < 128
+unfolding is_live
+a_live_id_is_inside u d e =
+    let few = few_slots u (not_broken u d e) in
+    let below = ltb-true d.index (limit_of u) (first _ _ (lives u d e)) in
+    omega arith

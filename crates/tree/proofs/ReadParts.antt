@@ -1,6 +1,7 @@
 -- Reads answer what the forest says: an id is live just where a node has it, and of a live node the box, the text, the caret and the metres
 -- are those known of it, since its slot holds the box and its field holds the text. The links from child to child go through the children
 -- in order. Assumes nothing.
+use Rattle.std.specs.Prelude.{None, Option, Some}
 use mathlib.Core.Path.{◌≡◌, refl, sym, ap, ◌∙◌, subst}
 use mathlib.Core.Bool.{Bool, true, false, cond}
 use mathlib.Core.List.{List, [], ◌∷◌}
@@ -13,11 +14,8 @@ use Rattle.field.specs.Text.{Text, bytes_of, caret_of}
 use Rattle.field.specs.Fields.{field_ok, shown_of, text_of}
 use Rattle.field.specs.Metres.{metres_of, field_metres}
 use Rattle.field.specs.declared.NodeId.{NodeId}
-use Rattle.field.specs.declared.MaybeId.{MaybeId}
-use Rattle.field.specs.declared.MaybeId.TheVariants.{Absent, Present}
 use Rattle.field.specs.declared.Field.{Field}
 use Rattle.field.proofs.Laws.{held_is_the_texts, length_is_the_texts, caret_is_the_texts}
-use Rattle.arithmetic.specs.Tests.{Maybe, nothing, just}
 use Rattle.arena.specs.Forest.{Forest, nil, node, has_both, has_id, kids_of, find, ids, first_id, next_id, size}
 use Rattle.boxes.specs.Nodes.{Info}
 use Rattle.boxes.specs.History.{of_text, of_node, padded}
@@ -38,19 +36,19 @@ use Rattle.boxes.proofs.Layouts.PassLaws.{Boxed}
 use Rattle.tree.proofs.Relation.{Ruled, AllFields, text_in, Links, Texts}
 
 -- the children of a node in order, by the calls for the first child and the next sibling
-abbrev pub siblings : ℕ → Ui → MaybeId → List NodeId
+abbrev pub siblings : ℕ → Ui → Option NodeId → List NodeId
 siblings zero u m = []
-siblings (suc k) u Absent = []
-siblings (suc k) u (Present d) = d ∷ siblings k u (next_sibling u d).answer.value
+siblings (suc k) u None = []
+siblings (suc k) u (Some d) = d ∷ siblings k u (next_sibling u d).answer.value
 
 abbrev pub children_by : Ui → NodeId → List NodeId
 children_by u d = siblings 128 u (first_child u d).answer.value
 
 -- ---- a field by the rules reads as its text
 
-abbrev pub FoundBy : (Field → Type 0) → Maybe Field → Type 0
-FoundBy P nothing = Unit {0}
-FoundBy P (just f) = P f
+abbrev pub FoundBy : (Field → Type 0) → Option Field → Type 0
+FoundBy P None = Unit {0}
+FoundBy P (Some f) = P f
 
 pub the_first_field_is_one_of_all : (P : Field → Type 0) (p : Field → Bool) (fs : List Field) → AllFields P fs → FoundBy P (first_field p fs)
 the_first_field_is_one_of_all P p [] q = tt
@@ -111,9 +109,9 @@ module _ {k : ℕ} {u : Ui} {t : Forest Info} (L : Links k u t) (b : broken u �
         rw (e, K.found) (go (field_of d u.fields) (the_first_field_is_one_of_all (Ruled u.slots t) (owns d) u.fields X.ruled) ∙ ap (of_text none said) (sym K.holds)))
         (λ e. rw (e, find_nothing d t e))
       where
-        go : (m : Maybe Field) → FoundBy (Ruled u.slots t) m → (of_field u none read m).answer ≡ of_text none said (text_in m)
-        go nothing q = refl
-        go (just f) q = law f q.0 q.1
+        go : (m : Option Field) → FoundBy (Ruled u.slots t) m → (of_field u none read m).answer ≡ of_text none said (text_in m)
+        go None q = refl
+        go (Some f) q = law f q.0 q.1
 
     pub field_text_answers_the_nodes_text : (d : NodeId) → (field_text u d).answer ≡ of_node no_text (λ x. of_text no_text (λ t. accepted (padded t)) x.text) (find d t)
     unfolding field_text
@@ -137,14 +135,14 @@ module _ {k : ℕ} {u : Ui} {t : Forest Info} (L : Links k u t) (b : broken u �
   first_child_answers_the_first d =
       rw (b, live_just_where_a_node_has_it L.rel d)
       (bool_cases (has_id d t)
-      (λ e. rw e (ap (λ (m : MaybeId). accepted m) (first_child_of_a_live_id L.rel d e)))
+      (λ e. rw e (ap (λ (m : Option NodeId). accepted m) (first_child_of_a_live_id L.rel d e)))
       (λ e. rw (e, no_kids_of_no_node d t e)))
 
-  pub next_sibling_answers_the_node_after : (d : NodeId) → (next_sibling u d).answer ≡ cond (has_id d t) (accepted (next_id d t)) (refused Missing Absent)
+  pub next_sibling_answers_the_node_after : (d : NodeId) → (next_sibling u d).answer ≡ cond (has_id d t) (accepted (next_id d t)) (refused Missing None)
   unfolding next_sibling
   next_sibling_answers_the_node_after d =
-      a_call_on_a_node_answers Absent _ d
-      ∙ bool_cases (has_id d t) (λ e. rw e (ap (λ (m : MaybeId). accepted m) (next_sibling_of_a_live_id L.rel d e))) (λ e. rw e)
+      a_call_on_a_node_answers None _ d
+      ∙ bool_cases (has_id d t) (λ e. rw e (ap (λ (m : Option NodeId). accepted m) (next_sibling_of_a_live_id L.rel d e))) (λ e. rw e)
 
   -- of a node in a row of siblings, the next is the one after it
   pub next_sibling_answers_the_next : (p pv i g : ℕ) (x : Info) (cs sib : Forest Info) → SegR u.slots p pv (node i g x cs sib) NIL → 0 < cnt i t → cnt NIL sib ≡ 0
@@ -155,8 +153,8 @@ module _ {k : ℕ} {u : Ui} {t : Forest Info} (L : Links k u t) (b : broken u �
       let e : (at s i).generation ≡ g = ap (λ (q : Slot). q.generation) r.0 in
       let n = ap (λ (q : Slot). q.next_sibling) r.0 in
       let l : has_id (record { index = i; generation = g }) t ≡ true = subst (λ (m : ℕ). has_id (record { index = i; generation = m }) t ≡ true) e (slots_id_is_live L.rel i c) in
-      a_call_on_a_node_answers Absent _ (record { index = i; generation = g })
-      ∙ rw (l, n) (ap (λ (m : MaybeId). accepted m) (first_link s sib p i NIL r.2 z))
+      a_call_on_a_node_answers None _ (record { index = i; generation = g })
+      ∙ rw (l, n) (ap (λ (m : Option NodeId). accepted m) (first_link s sib p i NIL r.2 z))
 
   siblings_from_the_first : (m p pv : ℕ) (f : Forest Info) → SegR u.slots p pv f NIL → ((j : ℕ) → cnt j f ≤ cnt j t) → size f ≤ m → siblings m u (first_id f) ≡ ids f
   siblings_from_the_first zero p pv nil r w h = refl
@@ -168,13 +166,13 @@ module _ {k : ℕ} {u : Ui} {t : Forest Info} (L : Links k u t) (b : broken u �
       let z = no_node_is_none L.rel in
       let zn = w NIL in
       let e : (next_sibling u (record { index = i; generation = g })).answer.value ≡ first_id sib =
-      ap (λ (q : Answer MaybeId). q.value) (next_sibling_answers_the_next p pv i g x cs sib r (omega arith) (omega arith)) in
+      ap (λ (q : Answer (Option NodeId)). q.value) (next_sibling_answers_the_next p pv i g x cs sib r (omega arith) (omega arith)) in
       ap (λ (l : List NodeId). record { index = i; generation = g } ∷ l)
-      (ap (λ (q : MaybeId). siblings m u q) e ∙ siblings_from_the_first m p i sib r.2 (λ j. let v = w j in omega arith) (omega arith))
+      (ap (λ (q : Option NodeId). siblings m u q) e ∙ siblings_from_the_first m p i sib r.2 (λ j. let v = w j in omega arith) (omega arith))
 
   pub children_by_the_links_are_the_nodes : (d : NodeId) → children_by u d ≡ ids (kids_of d t)
   children_by_the_links_are_the_nodes d =
-      ap (λ (a : Answer MaybeId). siblings 128 u a.value) (first_child_answers_the_first d)
+      ap (λ (a : Answer (Option NodeId)). siblings 128 u a.value) (first_child_answers_the_first d)
       ∙ bool_cases (has_id d t)
       (λ e.
       let c = (live_id L.rel d e).0 in

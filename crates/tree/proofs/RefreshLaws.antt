@@ -1,5 +1,6 @@
 -- A refresh is every node wearing its bits. The slots visited are those stated before and those of the nodes hovered, pressed and in focus:
 -- every other node had no bits and has none. The nodes with bits are among the three, and so stated afterwards. Assumes nothing.
+use Rattle.std.specs.Prelude.{None, Option, Some}
 use mathlib.Core.Path.{◌≡◌, refl, sym, ap, ◌∙◌, subst}
 use mathlib.Core.Logic.{◌≢◌}
 use mathlib.Core.Bool.{Bool, true, false, not, ◌||◌, ◌&&◌, cond}
@@ -11,8 +12,6 @@ use lib.Dec.{ltb}
 use lib.ListN.{length, drop, length-append, length-drop}
 use lib.Seq.{take-append_seam}
 use Rattle.field.specs.declared.NodeId.{NodeId}
-use Rattle.field.specs.declared.MaybeId.{MaybeId}
-use Rattle.field.specs.declared.MaybeId.TheVariants.{Absent, Present}
 use Rattle.arithmetic.specs.Tests.{same, δ, occ}
 use Rattle.arena.specs.Slots.{at, is_live, id_at, is_id, backwards}
 use Rattle.boxes.specs.Styles.{fresh_state, state_at}
@@ -63,7 +62,7 @@ occ_backwards j (i ∷ is) = let h = occ_append j (backwards is) (i ∷ []) in l
 
 -- ---- those with bits
 
-module _ (u : Ui) (hover : MaybeId) where
+module _ (u : Ui) (hover : Option NodeId) where
   pub what_is_kept_stays : (kept is : List ℕ) (j : ℕ) → occ j kept ≤ occ j (bearing (bits_at u hover) kept is)
   unfolding bearing
   what_is_kept_stays kept [] j = omega arith
@@ -128,15 +127,15 @@ module _ (u : Ui) (hover : MaybeId) where
   abbrev pub three : List ℕ
   three = live_slot (limit_of u) u.slots hover ++ live_slot (limit_of u) u.slots u.interaction.pressed ++ live_slot (limit_of u) u.slots u.interaction.focus
 
-one_slot_at_most : (u : Ui) (o : MaybeId) → length (live_slot (limit_of u) u.slots o) ≤ 1
+one_slot_at_most : (u : Ui) (o : Option NodeId) → length (live_slot (limit_of u) u.slots o) ≤ 1
 unfolding live_slot
-one_slot_at_most u Absent = omega arith
-one_slot_at_most u (Present d) = bool_cases (is_live (limit_of u) u.slots d) (λ b. rw b (omega arith)) (λ b. rw b (omega arith))
+one_slot_at_most u None = omega arith
+one_slot_at_most u (Some d) = bool_cases (is_live (limit_of u) u.slots d) (λ b. rw b (omega arith)) (λ b. rw b (omega arith))
 
-slot_in_below : (u : Ui) (o : MaybeId) (j : ℕ) → 0 < occ j (live_slot (limit_of u) u.slots o) → j < limit_of u
+slot_in_below : (u : Ui) (o : Option NodeId) (j : ℕ) → 0 < occ j (live_slot (limit_of u) u.slots o) → j < limit_of u
 unfolding live_slot is_live
-slot_in_below u Absent j z = absurd (omega arith)
-slot_in_below u (Present d) j z =
+slot_in_below u None j z = absurd (omega arith)
+slot_in_below u (Some d) j z =
     bool_cases (ltb d.index (limit_of u))
     (λ b. let h = ltb-true d.index (limit_of u) b in
     bool_cases ((at u.slots d.index).live && same (at u.slots d.index).generation d.generation)
@@ -145,10 +144,10 @@ slot_in_below u (Present d) j z =
     (λ b. let z' : 0 < 0 = rw b at z in absurd (omega arith))
 
 -- a live slot that is not listed has another id
-not_listed_not_named : (u : Ui) (o : MaybeId) (i : ℕ) → is_live (limit_of u) u.slots (id_at u.slots i) ≡ true → occ i (live_slot (limit_of u) u.slots o) ≡ 0 → is_id o (id_at u.slots i) ≡ false
+not_listed_not_named : (u : Ui) (o : Option NodeId) (i : ℕ) → is_live (limit_of u) u.slots (id_at u.slots i) ≡ true → occ i (live_slot (limit_of u) u.slots o) ≡ 0 → is_id o (id_at u.slots i) ≡ false
 unfolding live_slot
-not_listed_not_named u Absent i l z = refl
-not_listed_not_named u (Present d) i l z =
+not_listed_not_named u None i l z = refl
+not_listed_not_named u (Some d) i l z =
     let g : ℕ = (at u.slots i).generation in
     eq_cases d.index i
     (λ q s δ1. eq_cases d.generation g
@@ -159,7 +158,7 @@ not_listed_not_named u (Present d) i l z =
     (λ q' s' _. rw (s, s')))
     (λ q s _. rw s)
 
-module _ (u : Ui) (hover : MaybeId) where
+module _ (u : Ui) (hover : Option NodeId) where
   occ_three : (j : ℕ) → occ j (three u hover) ≡ occ j (live_slot (limit_of u) u.slots hover) + (occ j (live_slot (limit_of u) u.slots u.interaction.pressed) + occ j (live_slot (limit_of u) u.slots u.interaction.focus))
   occ_three j =
       let e1 = occ_append j (live_slot (limit_of u) u.slots hover ++ live_slot (limit_of u) u.slots u.interaction.pressed) (live_slot (limit_of u) u.slots u.interaction.focus) in
@@ -214,7 +213,7 @@ pub record StatedAfter (u u' : Ui) : Type 0 where
   pub few : u'.stated_count ≤ 3
   pub long : length u'.stated ≡ 3
 
-pub what_a_refresh_states : (u : Ui) (hover : MaybeId) → length u.stated ≡ 3 → StatedAfter u (refreshed u hover)
+pub what_a_refresh_states : (u : Ui) (hover : Option NodeId) → length u.stated ≡ 3 → StatedAfter u (refreshed u hover)
 unfolding refreshed with_stated with_styles
 what_a_refresh_states u hover len =
     let borne : List ℕ = bearing (bits_at u hover) [] (three u hover) in
@@ -240,7 +239,7 @@ pub record Refresh (u u' : Ui) (t t' : Forest Info) (moved : Bool) : Type 0 wher
   pub stated_few : u'.stated_count ≤ 3
   pub stated_long : length u'.stated ≡ 3
 
-pub a_refresh_is_every_node_wearing_its_bits : {free : ℕ} {t : Forest Info} {fl : List ℕ} (u : Ui) (hover : MaybeId) (bits : ℕ → ℕ → Info → ℕ)
+pub a_refresh_is_every_node_wearing_its_bits : {free : ℕ} {t : Forest Info} {fl : List ℕ} (u : Ui) (hover : Option NodeId) (bits : ℕ → ℕ → Info → ℕ)
     → Rel (limit_of u) u.slots free t fl → Sized (appearance_of u) → length u.stated ≡ 3
     → AllF (λ i g x. Worn u.layout u.states i x) t → TablesWorn t
     → AllF (λ i g x. 0 < x.bits → 0 < occ i (stated_of u)) t

@@ -1,4 +1,5 @@
 -- What holds between the tree and the nodes of the history after every call, in parts: links, names, looks, fields, queue. Assumes nothing.
+use Rattle.std.specs.Prelude.{None, Option, Some}
 use mathlib.Core.Path.{◌≡◌}
 use mathlib.Core.Bool.{true}
 use mathlib.Core.List.{List, [], ◌∷◌}
@@ -7,10 +8,8 @@ use lib.ListN.{length, get_or}
 use Rattle.field.specs.Text.{Text}
 use Rattle.field.specs.Fields.{field_ok, text_of}
 use Rattle.field.specs.declared.NodeId.{NodeId}
-use Rattle.field.specs.declared.MaybeId.{MaybeId}
-use Rattle.field.specs.declared.MaybeId.TheVariants.{Absent, Present}
 use Rattle.field.specs.declared.Field.{Field}
-use Rattle.arithmetic.specs.Tests.{occ, Maybe, nothing, just}
+use Rattle.arithmetic.specs.Tests.{occ}
 use Rattle.arena.specs.Slots.{Slots, at, nobody}
 use Rattle.boxes.specs.Styles.{fresh_state, state_at}
 use Rattle.tree.specs.Wearing.{appearance_of}
@@ -32,9 +31,9 @@ use Rattle.tree.proofs.WellLaws.{StatesWell}
 abbrev pub Below : Slots → Forest Info → NodeId → Type 0
 Below s t d = d.generation < (at s d.index).generation + cnt d.index t
 
-abbrev pub BelowMaybe : Slots → Forest Info → MaybeId → Type 0
-BelowMaybe s t Absent = Unit {0}
-BelowMaybe s t (Present d) = Below s t d
+abbrev pub BelowMaybe : Slots → Forest Info → Option NodeId → Type 0
+BelowMaybe s t None = Unit {0}
+BelowMaybe s t (Some d) = Below s t d
 
 -- the links; no generation is larger than the calls allow
 pub record Links (k : ℕ) (u : Ui) (t : Forest Info) : Type 0 where
@@ -79,9 +78,9 @@ pub what_follows_of_each : {P Q : Field → Type 0} → ((f : Field) → P f →
 what_follows_of_each h [] q = tt
 what_follows_of_each h (f ∷ fs) q = (h f q.0, what_follows_of_each h fs q.1)
 
-abbrev pub text_in : Maybe Field → Maybe Text
-text_in nothing = nothing
-text_in (just f) = just (text_of f)
+abbrev pub text_in : Option Field → Option Text
+text_in None = None
+text_in (Some f) = Some (text_of f)
 
 pub record Texts (s : Slots) (fields : List Field) (t : Forest Info) : Type 0 where
   pub eight : length fields ≡ 8

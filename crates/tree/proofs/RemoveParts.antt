@@ -1,5 +1,6 @@
 -- A removal keeps every part: the node and all below it leave the forest, the slots freed are those of the part that leaves, each is one
 -- generation older and its state is as new. So every epoch is what it was, and what holds of the nodes that stay held before. Assumes nothing.
+use Rattle.std.specs.Prelude.{Option}
 use mathlib.Core.Path.{◌≡◌, refl, sym, subst, ◌∙◌}
 use mathlib.Core.Logic.{◌≢◌}
 use mathlib.Core.Bool.{true}
@@ -8,7 +9,6 @@ use Prim.Native.Nat.{ℕ, suc, ◌+◌, ◌<◌, ◌≤◌, ◌^◌}
 use native.Mathlib.Omega.{arith}
 use lib.ListN.{length, get_or, set, length-set}
 use Rattle.field.specs.declared.NodeId.{NodeId}
-use Rattle.field.specs.declared.MaybeId.{MaybeId}
 use Rattle.arithmetic.specs.Tests.{occ}
 use Rattle.arena.specs.Forest.{Forest, has_id, cut_of}
 use Rattle.boxes.specs.Nodes.{Info}
@@ -98,7 +98,7 @@ module _ {k : ℕ} {u : Ui} {t : Forest Info} (L : Links k u t) (small : k < 2 ^
   pub remove_keeps_below : (e : NodeId) → Below u.slots t e → Below (remove_at u d.index).slots (cut_of d t) e
   remove_keeps_below = given_ids_stay_given u.slots t (remove_at u d.index).slots (cut_of d t) no_epoch_falls_by_a_removal
 
-  pub remove_keeps_below_maybe : (o : MaybeId) → BelowMaybe u.slots t o → BelowMaybe (remove_at u d.index).slots (cut_of d t) o
+  pub remove_keeps_below_maybe : (o : Option NodeId) → BelowMaybe u.slots t o → BelowMaybe (remove_at u d.index).slots (cut_of d t) o
   remove_keeps_below_maybe = given_owners_stay_given u.slots t (remove_at u d.index).slots (cut_of d t) no_epoch_falls_by_a_removal
 
   -- what holds of every node holds of those that stay

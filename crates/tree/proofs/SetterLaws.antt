@@ -5,7 +5,7 @@ use Prim.Native.Nat.{ℕ, ◌≤◌}
 use lib.ListN.{length, take, drop, take-append-drop}
 use lib.Seq.{length-take-le}
 use Rattle.arithmetic.specs.Tests.{over}
-use Rattle.tree.specs.Trees.{stated_of, waiting_of, with_styles, with_stated, with_fields, with_interaction, with_waiting, with_event_parts}
+use Rattle.tree.specs.Trees.{stated_of, waiting_of, with_styles, with_stated, with_fields, with_interaction, with_waiting}
 use Rattle.tree.specs.declared.Ui.{Ui}
 
 -- the front of an array written over its own front
@@ -24,10 +24,6 @@ module _ (u : Ui) where
   pub the_same_interaction : with_interaction u u.interaction ≡ u
   unfolding with_interaction
   the_same_interaction = refl
-
-  pub the_same_event_parts : with_event_parts u u.interaction u.fields u.outputs u.output_count ≡ u
-  unfolding with_event_parts
-  the_same_event_parts = refl
 
   pub the_same_stated : u.stated_count ≤ length u.stated → with_stated u (stated_of u) ≡ u
   unfolding with_stated

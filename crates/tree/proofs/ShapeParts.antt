@@ -1,12 +1,11 @@
 -- A call that leaves slots and shape alone keeps links, names and fields: counts see nothing of what is known of a node. Assumes nothing.
+use Rattle.std.specs.Prelude.{None, Option, Some}
 use mathlib.Core.Path.{◌≡◌, sym, ap, ◌∙◌}
 use mathlib.Core.List.{List}
 use Prim.Native.Nat.{ℕ, suc, ◌<◌}
 use native.Mathlib.Omega.{arith}
 use lib.ListN.{length, get_or}
 use Rattle.field.specs.declared.NodeId.{NodeId}
-use Rattle.field.specs.declared.MaybeId.{MaybeId}
-use Rattle.field.specs.declared.MaybeId.TheVariants.{Absent, Present}
 use Rattle.field.specs.declared.Field.{Field}
 use Rattle.arena.specs.Slots.{Slots, nobody}
 use Rattle.arena.specs.Forest.{Forest, size}
@@ -24,9 +23,9 @@ module _ (t t' : Forest Info) (e : shape t ≡ shape t') where
   pub below_by_shape : (s : Slots) (d : NodeId) → Below s t d → Below s t' d
   below_by_shape s d h = let q = cnt_shape d.index t t' e in omega arith
 
-  pub below_maybe_by_shape : (s : Slots) (d : MaybeId) → BelowMaybe s t d → BelowMaybe s t' d
-  below_maybe_by_shape s Absent h = tt
-  below_maybe_by_shape s (Present d) h = below_by_shape s d h
+  pub below_maybe_by_shape : (s : Slots) (d : Option NodeId) → BelowMaybe s t d → BelowMaybe s t' d
+  below_maybe_by_shape s None h = tt
+  below_maybe_by_shape s (Some d) h = below_by_shape s d h
 
   pub size_by_shape : size t ≡ size t'
   size_by_shape = sym (shape_size t) ∙ ap size e ∙ shape_size t'

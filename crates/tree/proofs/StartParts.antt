@@ -1,4 +1,6 @@
 -- The new tree of n slots, wherever its pointer is, has every part: the root alone, named first, its slots, layout, states and fields as new. Assumes nothing.
+use Rattle.std.specs.Prelude.{Option}
+use Rattle.boxes.specs.declared.Pixel.{Pixel}
 use mathlib.Core.Path.{◌≡◌, refl, sym}
 use mathlib.Core.List.{List, [], ◌∷◌}
 use Prim.Native.Nat.{ℕ, zero, suc, ◌+◌, ◌-◌, ◌≤◌, ◌<◌}
@@ -14,7 +16,6 @@ use Rattle.arena.specs.Slots.{Slots, at, nobody}
 use Rattle.boxes.specs.Styles.{fresh_layout, fresh_state, fresh_style, no_state, layout_at, state_at}
 use Rattle.arena.specs.Fields.{field_of}
 use Rattle.arena.specs.Rules.{distinct, owners_well}
-use Rattle.boxes.specs.declared.Pointer.{Pointer}
 use Rattle.tree.specs.Calls.{fresh}
 use Rattle.arithmetic.proofs.TestLaws.{δ-refl}
 use Rattle.arena.proofs.Forests.ForestLaws.{cnt}
@@ -42,7 +43,7 @@ unfolding empty_field
 empty_fields_are_ruled s t zero = tt
 empty_fields_are_ruled s t (suc m) = ((empty_field_keeps_the_rules, refl, tt), empty_fields_are_ruled s t m)
 
-module _ (p : Pointer) (n : ℕ) (l : 1 ≤ n) (h : n ≤ 128) where
+module _ (p : Option Pixel) (n : ℕ) (l : 1 ≤ n) (h : n ≤ 128) where
   pub start_has_links : Links 0 (fresh p n) only_root
   unfolding fresh
   start_has_links = record { chain = from_to 1 (n - 1); rel = start_rel n (new_info 0) l h; count = refl; young = start_generations n }

@@ -1,4 +1,5 @@
 -- Styles, tables, the pool, a pass and a refresh keep the part on looks. Assumes nothing.
+use Rattle.std.specs.Prelude.{Option}
 use mathlib.Core.Path.{◌≡◌, refl, sym, ◌∙◌}
 use mathlib.Core.Bool.{Bool, true, false, ◌&&◌, ◌||◌, not, cond}
 use mathlib.Core.List.{List, [], ◌∷◌}
@@ -6,7 +7,6 @@ use Prim.Native.Nat.{ℕ, ◌≤◌, ◌<◌}
 use native.Mathlib.Omega.{arith}
 use lib.ListN.{length}
 use Rattle.field.specs.declared.NodeId.{NodeId}
-use Rattle.field.specs.declared.MaybeId.{MaybeId}
 use Rattle.arithmetic.specs.Tests.{same, occ, from_to, all}
 use Rattle.boxes.specs.Styles.{no_patch, layout_at}
 use Rattle.boxes.specs.States.{Appearance, entry_of, in_pool, bare_all}
@@ -59,11 +59,11 @@ in_array : (k : ℕ) (u : Ui) (t : Forest Info) → Links k u t → (d : NodeId)
 in_array k u t l d h = let c = (live_id l.rel d h).0 in let b = below l.rel d.index (omega arith) in let m = l.rel.small in omega arith
 
 -- a refresh changes looks and stated slots alone
-pub refresh_keeps_the_limit : (u : Ui) (hover : MaybeId) → limit_of (refreshed u hover) ≡ limit_of u
+pub refresh_keeps_the_limit : (u : Ui) (hover : Option NodeId) → limit_of (refreshed u hover) ≡ limit_of u
 unfolding refreshed with_stated with_styles
 refresh_keeps_the_limit u hover = refl
 
-pub refresh_keeps_the_count : (u : Ui) (hover : MaybeId) → (refreshed u hover).patch_count ≡ u.patch_count
+pub refresh_keeps_the_count : (u : Ui) (hover : Option NodeId) → (refreshed u hover).patch_count ≡ u.patch_count
 unfolding refreshed with_stated with_styles
 refresh_keeps_the_count u hover = refl
 
@@ -145,7 +145,7 @@ module _ (k : ℕ) (u : Ui) (t : Forest Info) (l : Links k u t) (r : Styled u t)
         well = r.well;
       }
 
-  module _ (hover : MaybeId) (bits : ℕ → ℕ → Info → ℕ) (agree : AllF (λ i g x. bits_at u hover i ≡ bits i g x) t)
+  module _ (hover : Option NodeId) (bits : ℕ → ℕ → Info → ℕ) (agree : AllF (λ i g x. bits_at u hover i ≡ bits i g x) t)
       (none : (j : ℕ) → j < limit_of u → cnt j t ≡ 0 → bits_at u hover j ≡ 0) where
     refreshes : Refresh u (refreshed u hover) t (map_f (λ i g x. wears (pool_of u) (bits i g x) x) t) (any_f (λ i g x. swaps (pool_of u) (bits i g x) x) t)
     refreshes = a_refresh_is_every_node_wearing_its_bits u hover bits l.rel r.sized r.stated_long r.worn r.tables r.with_bits

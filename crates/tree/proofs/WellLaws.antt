@@ -1,5 +1,7 @@
 -- What slots wear keeps to the rules: a table's entries are in the pool, so that what is worn of it is, and three bits make at most 7.
 -- Assumes nothing.
+use Rattle.field.specs.declared.NodeId.{NodeId}
+use Rattle.std.specs.Prelude.{Option}
 use mathlib.Core.Path.{◌≡◌, refl, sym, ap, ◌∙◌, subst}
 use mathlib.Core.Bool.{Bool, true, false, ◌&&◌}
 use mathlib.Core.List.{List, [], ◌∷◌, ◌++◌}
@@ -9,7 +11,6 @@ use borrow.Author.Tests.{leb-true, le-leb}
 use lib.Dec.{leb}
 use lib.ListN.{length, get_or, take, replicate}
 use Rattle.arithmetic.proofs.BoolLaws.{and_left, and_right}
-use Rattle.field.specs.declared.MaybeId.{MaybeId}
 use Rattle.arithmetic.specs.Tests.{occ, all, from_to}
 use Rattle.boxes.specs.Styles.{no_patch, no_state, fresh_table, bare_state, state_at}
 use Rattle.tree.specs.Trees.{limit_of, pool_of, stated_of, with_styles, with_stated, with_pool}
@@ -81,7 +82,7 @@ three_bits_make_7_at_most false true false = omega arith
 three_bits_make_7_at_most false false true = omega arith
 three_bits_make_7_at_most false false false = omega arith
 
-pub bits_are_7_at_most : (u : Ui) (hover : MaybeId) (i : ℕ) → bits_at u hover i ≤ 7
+pub bits_are_7_at_most : (u : Ui) (hover : Option NodeId) (i : ℕ) → bits_at u hover i ≤ 7
 unfolding bits_at
 bits_are_7_at_most u hover i = three_bits_make_7_at_most _ _ _
 
@@ -120,13 +121,13 @@ bits_of_a_well_slot count s e =
 
 -- ---- all slots
 
-pub slots_that_wear_are_well : (count n : ℕ) (u : Ui) (hover : MaybeId) (k : Appearance) (is : List ℕ) → Inside is → Sized k → StatesWell count n k.states → StatesWell count n (wear_all (pool_of u) (bits_at u hover) k is).states
+pub slots_that_wear_are_well : (count n : ℕ) (u : Ui) (hover : Option NodeId) (k : Appearance) (is : List ℕ) → Inside is → Sized k → StatesWell count n k.states → StatesWell count n (wear_all (pool_of u) (bits_at u hover) k is).states
 slots_that_wear_are_well count n u hover k is b o w =
     subst (λ (k' : Appearance). StatesWell count n k'.states) (sym (wear_all_is_a_round (pool_of u) (bits_at u hover) k is))
     (a_round_keeps_of_each (WellIn count) n (wear_step (pool_of u) (bits_at u hover)) k is b o
     (λ j e v. a_slot_that_wears_is_well count e.state (bits_at u hover j) (bits_are_7_at_most u hover j) v) w)
 
-pub a_refreshed_tree_is_well : (count n : ℕ) (u : Ui) (hover : MaybeId) → limit_of u ≤ 128 → Sized (appearance_of u) → ((j : ℕ) → 0 < occ j (stated_of u) → j < limit_of u)
+pub a_refreshed_tree_is_well : (count n : ℕ) (u : Ui) (hover : Option NodeId) → limit_of u ≤ 128 → Sized (appearance_of u) → ((j : ℕ) → 0 < occ j (stated_of u) → j < limit_of u)
     → StatesWell count n u.states → StatesWell count n (refreshed u hover).states
 unfolding refreshed with_stated with_styles
 a_refreshed_tree_is_well count n u hover m o sb w =

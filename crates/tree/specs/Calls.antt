@@ -1,15 +1,14 @@
 -- Document 01: each call of the tree, with its answer and the next tree. The lowest refusal number that applies is given; a refused call
 -- hands back the tree that it got.
-use Rattle.std.specs.Prelude.{ℕ, ◌+◌, ◌-◌, Bool, true, false, ◌&&◌, not, cond, List, ltb, pos, length, set, replicate}
+use Rattle.boxes.specs.declared.Pixel.{Pixel}
+use Rattle.std.specs.Prelude.{ℕ, ◌+◌, ◌-◌, Bool, true, false, ◌&&◌, not, cond, List, ltb, pos, length, set, replicate, None, Option, Some}
 use Rattle.text.specs.Refusal.{Answer, accepted, refused}
 use Rattle.text.specs.declared.refusal.Refusal.{Refusal}
 use Rattle.text.specs.declared.refusal.Refusal.TheVariants.{Broken, Large, Missing, Full, Root, Foreign, Long, Fieldless}
 use Rattle.field.specs.Fields.{empty_field, shown_of}
 use Rattle.field.specs.declared.NodeId.{NodeId}
-use Rattle.field.specs.declared.MaybeId.{MaybeId}
-use Rattle.field.specs.declared.MaybeId.TheVariants.{Absent, Present}
 use Rattle.field.specs.declared.Field.{Field}
-use Rattle.arithmetic.specs.Tests.{same, all, from_to, final_or, Maybe, nothing, just}
+use Rattle.arithmetic.specs.Tests.{same, all, from_to, final_or}
 use Rattle.arena.specs.Slots.{NIL, at, put, used, is_live, id_at, nobody, link_last, unlink, freeing, freed, new_slots}
 use Rattle.boxes.specs.Styles.{no_rect, fresh_style, fresh_layout, fresh_state, layout_at}
 use Rattle.boxes.specs.States.{in_pool, bare_all, reset_states}
@@ -25,7 +24,6 @@ use Rattle.boxes.specs.declared.Style.{Style}
 use Rattle.boxes.specs.declared.Rect.{Rect}
 use Rattle.boxes.specs.declared.StatePatch.{StatePatch}
 use Rattle.boxes.specs.declared.Viewport.{Viewport}
-use Rattle.boxes.specs.declared.Pointer.{Pointer}
 use Rattle.boxes.specs.declared.StartKind.{StartKind}
 
 -- What a call gives: the next tree, and its answer.
@@ -47,13 +45,13 @@ unfoldable pub on_live : {A : Type 0} → Ui → NodeId → A → Outcome A → 
 on_live u d none o = guarded u none (cond (is_live (limit_of u) u.slots d) o (refuses u Missing none))
 
 -- The tree of n slots that has its root alone, with the pointer as given.
-unfoldable pub fresh : Pointer → ℕ → Ui
+unfoldable pub fresh : Option Pixel → ℕ → Ui
 fresh first n = record {
   slots = new_slots n 0 128;
   layout = replicate 128 fresh_layout;
   dirty = true;
   solved_for = record { width = pos 0; height = pos 0 };
-  interaction = record { pointer = first; pressed = Absent; focus = Absent; activations = 0; decisions = 0; edit_fold = 0; overflowed = 0 };
+  interaction = record { pointer = first; pressed = None; focus = None; activations = 0; decisions = 0; edit_fold = 0; overflowed = 0 };
   outputs = replicate 128 nobody;
   output_count = 0;
   states = replicate 128 fresh_state;
@@ -116,21 +114,21 @@ unfoldable pub set_patch_pool : Ui → List StatePatch → ℕ → Outcome ℕ
 set_patch_pool u patches count = guarded u 0 (cond (ltb 64 count) (refuses u Long 0) (gives (pooled u patches count) 0))
 
 -- A node that has a field keeps it. Otherwise the fields of dead owners are cleared and the first free one is taken.
-abbrev pub take_vacant : Ui → NodeId → Maybe Field → Outcome ℕ
-take_vacant u d nothing = refuses u Full 0
-take_vacant u d (just f) = gives (with_fields u (claimed d (reclaimed (limit_of u) u.slots u.fields))) 0
+abbrev pub take_vacant : Ui → NodeId → Option Field → Outcome ℕ
+take_vacant u d None = refuses u Full 0
+take_vacant u d (Some f) = gives (with_fields u (claimed d (reclaimed (limit_of u) u.slots u.fields))) 0
 
-abbrev pub take_field : Ui → NodeId → Maybe Field → Outcome ℕ
-take_field u d (just f) = gives u 0
-take_field u d nothing = take_vacant u d (first_field vacant (reclaimed (limit_of u) u.slots u.fields))
+abbrev pub take_field : Ui → NodeId → Option Field → Outcome ℕ
+take_field u d (Some f) = gives u 0
+take_field u d None = take_vacant u d (first_field vacant (reclaimed (limit_of u) u.slots u.fields))
 
 unfoldable pub make_field : Ui → NodeId → Outcome ℕ
 make_field u d = on_live u d 0 (take_field u d (field_of d u.fields))
 
 -- A read of the node's field.
-abbrev pub of_field : {A : Type 0} → Ui → A → (Field → Outcome A) → Maybe Field → Outcome A
-of_field u none read nothing = refuses u Fieldless none
-of_field u none read (just f) = read f
+abbrev pub of_field : {A : Type 0} → Ui → A → (Field → Outcome A) → Option Field → Outcome A
+of_field u none read None = refuses u Fieldless none
+of_field u none read (Some f) = read f
 
 unfoldable pub on_field : {A : Type 0} → Ui → NodeId → A → (Field → Outcome A) → Outcome A
 on_field u d none read = on_live u d none (of_field u none read (field_of d u.fields))
@@ -155,12 +153,12 @@ rect u d = on_live u d no_rect (gives u (layout_at u.layout d.index).rect)
 unfoldable pub live : Ui → NodeId → Outcome Bool
 live u d = guarded u false (gives u (is_live (limit_of u) u.slots d))
 
-abbrev pub neighbour_at : Ui → ℕ → MaybeId
-neighbour_at u i = cond (same i NIL) Absent (Present (id_at u.slots i))
+abbrev pub neighbour_at : Ui → ℕ → Option NodeId
+neighbour_at u i = cond (same i NIL) None (Some (id_at u.slots i))
 
-unfoldable pub first_child : Ui → NodeId → Outcome MaybeId
+unfoldable pub first_child : Ui → NodeId → Outcome (Option NodeId)
 first_child u d =
-    guarded u Absent (gives u (cond (is_live (limit_of u) u.slots d) (neighbour_at u (at u.slots d.index).first_child) Absent))
+    guarded u None (gives u (cond (is_live (limit_of u) u.slots d) (neighbour_at u (at u.slots d.index).first_child) None))
 
-unfoldable pub next_sibling : Ui → NodeId → Outcome MaybeId
-next_sibling u d = on_live u d Absent (gives u (neighbour_at u (at u.slots d.index).next_sibling))
+unfoldable pub next_sibling : Ui → NodeId → Outcome (Option NodeId)
+next_sibling u d = on_live u d None (gives u (neighbour_at u (at u.slots d.index).next_sibling))

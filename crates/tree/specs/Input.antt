@@ -1,14 +1,13 @@
 -- Document 01, **Input**: the node under a pixel, by the boxes of the last pass; and with wish 2 of document 02 the node under a pointer.
-use Rattle.field.specs.declared.MaybeId.{MaybeId}
-use Rattle.field.specs.declared.MaybeId.TheVariants.{Absent}
+use Rattle.field.specs.declared.NodeId.{NodeId}
+use Rattle.std.specs.Prelude.{None, Option}
 use Rattle.boxes.specs.Hit.{hit_at}
 use Rattle.boxes.specs.Pointers.{under_pointer}
 use Rattle.tree.specs.declared.Ui.{Ui}
 use Rattle.boxes.specs.declared.Pixel.{Pixel}
-use Rattle.boxes.specs.declared.Pointer.{Pointer}
 
-abbrev pub hit_test : Ui → Pixel → MaybeId
+abbrev pub hit_test : Ui → Pixel → Option NodeId
 hit_test u pixel = hit_at u.slots u.layout pixel
 
-abbrev pub hit_under : Ui → Pointer → MaybeId
-hit_under u pointer = under_pointer Absent (hit_test u) pointer
+abbrev pub hit_under : Ui → Option Pixel → Option NodeId
+hit_under u pointer = under_pointer None (hit_test u) pointer

@@ -56,7 +56,3 @@ with_interaction u interaction' = record { slots = u.slots; layout = u.layout; d
 -- Other waiting outputs.
 unfoldable pub with_waiting : Ui → List NodeId → Ui
 with_waiting u waiting = record { slots = u.slots; layout = u.layout; dirty = u.dirty; solved_for = u.solved_for; interaction = u.interaction; outputs = over waiting u.outputs; output_count = length waiting; states = u.states; patches = u.patches; patch_count = u.patch_count; stated = u.stated; stated_count = u.stated_count; layout_passes = u.layout_passes; free = u.free; live = u.live; limits = u.limits; fields = u.fields }
-
--- What an event changes, before the bits are refreshed: interaction, fields, outputs and their count.
-unfoldable pub with_event_parts : Ui → Interaction → List Field → List NodeId → ℕ → Ui
-with_event_parts u interaction' fields' outputs' count' = record { slots = u.slots; layout = u.layout; dirty = u.dirty; solved_for = u.solved_for; interaction = interaction'; outputs = outputs'; output_count = count'; states = u.states; patches = u.patches; patch_count = u.patch_count; stated = u.stated; stated_count = u.stated_count; layout_passes = u.layout_passes; free = u.free; live = u.live; limits = u.limits; fields = fields' }

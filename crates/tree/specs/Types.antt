@@ -7,7 +7,5 @@ pub use Rattle.boxes.specs.declared.LayoutSlot.{LayoutSlot}
 pub use Rattle.boxes.specs.declared.StateSlot.{StateSlot}
 pub use Rattle.boxes.specs.declared.StatePatch.{StatePatch}
 pub use Rattle.boxes.specs.declared.Pixel.{Pixel}
-pub use Rattle.boxes.specs.declared.Pointer.{Pointer}
 pub use Rattle.boxes.specs.declared.StartKind.{StartKind}
 pub use Rattle.boxes.specs.declared.Viewport.{Viewport}
-pub use Rattle.arena.specs.declared.fields.Place.TheVariants.{Nowhere, At}

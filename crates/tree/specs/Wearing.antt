@@ -1,6 +1,6 @@
 -- Document 01, **States**, over the whole tree: what nodes wear for their bits, and how styles and tables change it.
-use Rattle.std.specs.Prelude.{ℕ, true, cond, List, [], ◌++◌, set}
-use Rattle.field.specs.declared.MaybeId.{MaybeId}
+use Rattle.field.specs.declared.NodeId.{NodeId}
+use Rattle.std.specs.Prelude.{ℕ, true, cond, List, [], ◌++◌, set, Option}
 use Rattle.arithmetic.specs.Tests.{same}
 use Rattle.boxes.specs.Styles.{no_patch, layout_at, state_at}
 use Rattle.boxes.specs.States.{Appearance, wear, wear_all, with_style, bits_by, live_slot, bearing, based, tabled}
@@ -17,13 +17,13 @@ unfoldable pub with_appearance : Ui → Appearance → Ui
 with_appearance u k = with_styles u k.layout k.states k.dirty
 
 -- The bits of slot i as they stand, with `hover` the node under the pointer.
-unfoldable pub bits_at : Ui → MaybeId → ℕ → ℕ
+unfoldable pub bits_at : Ui → Option NodeId → ℕ → ℕ
 bits_at u hover i = bits_by u.slots hover u.interaction.pressed u.interaction.focus i
 
 -- Every slot that was stated, from the last, then the nodes hovered, pressed and in focus, wear their bits; those of the three with bits are stated.
-unfoldable pub refreshed : Ui → MaybeId → Ui
+unfoldable pub refreshed : Ui → Option NodeId → Ui
 refreshed u hover =
-    let slot_of : MaybeId → List ℕ = live_slot (limit_of u) u.slots in
+    let slot_of : Option NodeId → List ℕ = live_slot (limit_of u) u.slots in
     let three = slot_of hover ++ slot_of u.interaction.pressed ++ slot_of u.interaction.focus in
     let k = wear_all (pool_of u) (bits_at u hover) (appearance_of u) (backwards (stated_of u) ++ three) in
     with_stated (with_styles u k.layout k.states k.dirty) (bearing (bits_at u hover) [] three)

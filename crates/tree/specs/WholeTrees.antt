@@ -1,8 +1,7 @@
 -- Not broken means a tree: what holds of every tree that keeps the link rules, wherever it comes from. Its links spell a forest with the
 -- root on top, a removal frees a node's whole subtree, and a hit test goes all the way down.
-use Rattle.std.specs.Prelude.{ℕ, ◌+◌, ◌≤◌, ◌<◌, ◌≡◌, ◌≢◌, true, false, length}
+use Rattle.std.specs.Prelude.{ℕ, ◌+◌, ◌≤◌, ◌<◌, ◌≡◌, ◌≢◌, true, false, length, Some}
 use Rattle.field.specs.declared.NodeId.{NodeId}
-use Rattle.field.specs.declared.MaybeId.TheVariants.{Present}
 use Rattle.arithmetic.specs.Tests.{δ, occ}
 use Rattle.arena.specs.Slots.{NIL, at, is_live, chain, kids_at, unlink, freeing}
 use Rattle.arena.specs.Rules.{aliveness}
@@ -39,7 +38,7 @@ pub record WholeTree (u : Ui) : Type 0 where
       → (j : ℕ) → occ j (freeing (unlink u.slots d.index) d.index) + cnt j (cut_of d forest) ≡ cnt j forest
   pub leaves_the_rest : (d : NodeId) → is_live (limit_of u) u.slots d ≡ true → d.index ≢ 0 → Spells (remove_at u d.index) (cut_of d forest)
   -- the node that a hit test names holds the pixel, and none of its children does
-  pub goes_all_the_way_down : (pixel : Pixel) (d : NodeId) → hit_test u pixel ≡ Present d
+  pub goes_all_the_way_down : (pixel : Pixel) (d : NodeId) → hit_test u pixel ≡ Some d
       → (holds_at u.layout pixel d.index ≡ true) × ((c : ℕ) → 0 < occ c (kids_at u.slots d.index) → holds_at u.layout pixel c ≡ false)
 
 -- Of every `Ui`: its array has 128 slots.

@@ -1,74 +1,51 @@
-// What a call answers, an enum for each kind. Where the tree goes on, the next one stands beside the answer; so does a text's array.
-use crate::{Rect, Ui};
+// What a call answers that gives a tree or a text: the next tree stands beside the answer, accepted or refused.
+ghost use Rattle.std.specs.Prelude.{◌≡◌, Err, Ok};
+
+use crate::Ui;
 use field::NodeId;
-use text::refusal::{Refusal, Verdict};
+use text::refusal::Refusal;
+
+// An answer, and the next tree.
+#[derive(Clone, Copy)]
+pub struct Reply<T> {
+    pub answer: Result<T, Refusal>,
+    pub tree: Ui,
+}
 
 // Calls that give the next tree alone.
-#[derive(Clone, Copy)]
-pub struct Changed {
-    pub verdict: Verdict,
-    pub tree: Ui,
-}
+pub type Changed = Reply<()>;
 
 // The id of a new node.
-#[derive(Clone, Copy)]
-pub enum NewId {
-    Id(NodeId),
-    Refused(Refusal),
+pub type Inserted = Reply<NodeId>;
+
+impl<T: Copy> Reply<T> {
+    // Refused by a word, with the tree that the call got.
+    #[inline(always)]
+    pub fn refused(tree: Ui, word: Refusal) -> Reply<T>
+        ensures { result ≡ record { answer = Err word; tree = tree } }
+    {
+        Reply {
+            answer: Err(word),
+            tree,
+        }
+    }
+
+    // Accepted, with the next tree.
+    #[inline(always)]
+    pub fn accepted(tree: Ui, value: T) -> Reply<T>
+        ensures { result ≡ record { answer = Ok value; tree = tree } }
+    {
+        Reply {
+            answer: Ok(value),
+            tree,
+        }
+    }
 }
 
-#[derive(Clone, Copy)]
-pub struct Inserted {
-    pub answer: NewId,
-    pub tree: Ui,
-}
-
-// The length of a text.
-#[derive(Clone, Copy)]
-pub enum TextLength {
-    Bytes(u8),
-    Refused(Refusal),
-}
-
-#[derive(Clone, Copy)]
+// A text: its bytes, 0 past the length, and the length.
+// Kept: an array with its length, as the field's own is.
+#[derive(Clone, Copy, Debug, PartialEq, Eq)]
 pub struct FieldText {
-    pub answer: TextLength,
     pub bytes: [u8; 64],
-}
-
-// Where a caret stands.
-#[derive(Clone, Copy)]
-pub enum Caret {
-    At(u8),
-    Refused(Refusal),
-}
-
-// A node's box.
-#[derive(Clone, Copy)]
-pub enum NodeRect {
-    At(Rect),
-    Refused(Refusal),
-}
-
-// Whether an id is live.
-#[derive(Clone, Copy)]
-pub enum Liveness {
-    Dead,
-    Live,
-    Refused(Refusal),
-}
-
-// A node, or none: the first child, the next sibling, the oldest output.
-#[derive(Clone, Copy)]
-pub enum Neighbour {
-    Nobody,
-    Node(NodeId),
-    Refused(Refusal),
-}
-
-// Where a read finds a node's field among the eight.
-#[derive(Clone, Copy)]
-pub enum FieldPlace {
-    At(u32),
-    Refused(Refusal),
+    pub len: u8,
 }

@@ -6,40 +6,34 @@ pub mod input;
 mod nodes;
 pub mod rules;
 mod start;
-mod wearing;
+pub mod wearing;
 
-ghost use Rattle.std.specs.Prelude.{◌≡◌};
-ghost use Rattle.tree.specs.Answers.{precheck, field_place, changed_of, inserted_of, rect_of, liveness_of, neighbour_of, field_text_of, caret_answer};
+ghost use Rattle.std.specs.Prelude.{◌≡◌, false, None};
+ghost use Rattle.tree.specs.Answers.{precheck, field_place, changed_of, inserted_of, field_text_of};
+ghost use Rattle.text.specs.Refusal.{answered};
+ghost use Rattle.boxes.specs.Styles.{no_rect};
 ghost use Rattle.tree.specs.Calls.{new_tree, insert, remove, live, rect, first_child, next_sibling, field_text, field_cursor, make_field, take_field, solve, set_style, set_state_table, set_patch_pool};
-ghost use Rattle.arithmetic.specs.Tests.{nothing};
 ghost use Rattle.boxes.specs.declared.StartKind.TheVariants.{New, AtOrigin};
 
-use answers::{
-    Caret, Changed, FieldPlace, FieldText, Inserted, Liveness, Neighbour, NewId, NodeRect,
-    TextLength,
-};
+use answers::{Changed, FieldText, Inserted, Reply};
+use arena::links::NIL;
 pub use arena::{Slot, fields, links};
 use arithmetic::scalar;
 use boxes::layout;
-use boxes::layout::same_view;
 use boxes::nodes::rect_at;
 pub use boxes::{
-    Align, Direction, Edges, LayoutSlot, Pixel, Pointer, Rect, Size, StartKind, StatePatch,
-    StateSlot, Style, Viewport, state,
+    Align, Direction, Edges, LayoutSlot, Pixel, Rect, Size, StartKind, StatePatch, StateSlot,
+    Style, Viewport, state,
 };
-use field::{Field, MaybeId, NodeId};
-use fields::Place;
-use text::refusal::{Refusal, Verdict};
-
-// No neighbour.
-const NIL: u32 = 4294967295;
+use field::{Field, NodeId};
+use text::refusal::Refusal;
 
 // What the tree remembers between events.
-#[derive(Clone, Copy)]
+#[derive(Clone, Copy, PartialEq, Eq)]
 pub struct Interaction {
-    pub pointer: Pointer,
-    pub pressed: MaybeId,
-    pub focus: MaybeId,
+    pub pointer: Option<Pixel>,
+    pub pressed: Option<NodeId>,
+    pub focus: Option<NodeId>,
     pub activations: u64,
     pub decisions: u64,
     pub edit_fold: u64,
@@ -47,13 +41,14 @@ pub struct Interaction {
 }
 
 // The most nodes that a tree holds, its root included.
-#[derive(Clone, Copy)]
+#[derive(Clone, Copy, PartialEq, Eq)]
 pub struct UiLimits {
     pub nodes: u32,
 }
 
 // The tree. Slots from `limits.nodes` on, and places past a count, hold nothing.
-#[derive(Clone, Copy)]
+// Kept: arrays with counts, and the tree itself by value, as document 01 has them in place of `Vec`s and `&mut self`.
+#[derive(Clone, Copy, PartialEq, Eq)]
 pub struct Ui {
     pub slots: [Slot; 128],
     pub layout: [LayoutSlot; 128],
@@ -83,6 +78,7 @@ impl Ui {
     }
 
     // The same with the pointer at (0, 0).
+    // Kept: document 02 asks for a start of this kind beside the other; each is one call.
     pub fn at_origin(limits: UiLimits) -> Changed
         ensures { changed_of result ≡ new_tree AtOrigin limits.nodes }
     {
@@ -100,329 +96,214 @@ impl Ui {
     }
 
     // Whether a call on a node is refused before anything else: the tree is broken, or the node is not live.
-    pub fn precheck(self, d: NodeId) -> Verdict
+    // Kept: each call that gives a tree asks for itself, since a closure that takes and gives a tree copies 60 KB more, 4 µs of a call's 14.
+    #[tactic(auto, unfolding(crate::specs::Answers::precheck))]
+    pub fn precheck(self, d: NodeId) -> Result<(), Refusal>
         ensures { result ≡ precheck self d }
     {
         if rules::broken(self) {
-            return Verdict::Refused(Refusal::Broken);
+            return Err(Refusal::Broken);
         }
-        let limits = self.limits;
-        let slots = self.slots;
-        if links::is_live(limits.nodes, slots, d) {
-            return Verdict::Accepted;
+        if !links::is_live(self.limits.nodes, self.slots, d) {
+            return Err(Refusal::Missing);
         }
-        Verdict::Refused(Refusal::Missing)
+        Ok(())
     }
 
     // Whether the id names a live node.
-    pub fn is_live(self, d: NodeId) -> Liveness
-        ensures { liveness_of result ≡ (live self d).answer }
+    #[tactic(auto, unfolding(crate::specs::Calls::live, crate::specs::Calls::guarded))]
+    pub fn is_live(self, d: NodeId) -> Result<bool, Refusal>
+        ensures { answered false result ≡ (live self d).answer }
     {
         if rules::broken(self) {
-            return Liveness::Refused(Refusal::Broken);
+            return Err(Refusal::Broken);
         }
-        let limits = self.limits;
-        let slots = self.slots;
-        if links::is_live(limits.nodes, slots, d) {
-            return Liveness::Live;
-        }
-        Liveness::Dead
+        Ok(links::is_live(self.limits.nodes, self.slots, d))
     }
 
     // The node's box, of the last pass.
-    pub fn rect(self, d: NodeId) -> NodeRect
-        ensures { rect_of result ≡ (rect self d).answer }
+    #[tactic(auto, unfolding(crate::specs::Calls::rect, crate::specs::Calls::on_live, crate::specs::Calls::guarded, crate::specs::Answers::precheck))]
+    pub fn rect(self, d: NodeId) -> Result<Rect, Refusal>
+        ensures { answered no_rect result ≡ (rect self d).answer }
     {
-        match self.precheck(d) {
-            Verdict::Refused(word) => NodeRect::Refused(word),
-            Verdict::Accepted => {
-                let layout = self.layout;
-                NodeRect::At(rect_at(layout, d.index))
-            }
-        }
+        self.precheck(d)?;
+        Ok(rect_at(self.layout, d.index))
     }
 
     // The node's next sibling.
-    pub fn next_sibling(self, d: NodeId) -> Neighbour
-        ensures { neighbour_of result ≡ (next_sibling self d).answer }
+    #[tactic(auto, unfolding(crate::specs::Calls::next_sibling, crate::specs::Calls::on_live, crate::specs::Calls::guarded, crate::specs::Answers::precheck))]
+    pub fn next_sibling(self, d: NodeId) -> Result<Option<NodeId>, Refusal>
+        ensures { answered None result ≡ (next_sibling self d).answer }
     {
-        match self.precheck(d) {
-            Verdict::Refused(word) => Neighbour::Refused(word),
-            Verdict::Accepted => {
-                let slots = self.slots;
-                let s = links::slot_at(slots, d.index);
-                nodes::neighbour(slots, s.next_sibling)
-            }
-        }
+        self.precheck(d)?;
+        let s = links::slot_at(self.slots, d.index);
+        Ok(nodes::neighbour(self.slots, s.next_sibling))
     }
 
     // The node's first child; a dead node has none.
-    pub fn first_child(self, d: NodeId) -> Neighbour
-        ensures { neighbour_of result ≡ (first_child self d).answer }
+    #[tactic(auto, unfolding(crate::specs::Calls::first_child, crate::specs::Calls::guarded))]
+    pub fn first_child(self, d: NodeId) -> Result<Option<NodeId>, Refusal>
+        ensures { answered None result ≡ (first_child self d).answer }
     {
         if rules::broken(self) {
-            return Neighbour::Refused(Refusal::Broken);
+            return Err(Refusal::Broken);
         }
-        let limits = self.limits;
-        let slots = self.slots;
-        if links::is_live(limits.nodes, slots, d) {
-            let s = links::slot_at(slots, d.index);
-            return nodes::neighbour(slots, s.first_child);
+        if !links::is_live(self.limits.nodes, self.slots, d) {
+            return Ok(None);
         }
-        Neighbour::Nobody
+        let s = links::slot_at(self.slots, d.index);
+        Ok(nodes::neighbour(self.slots, s.first_child))
     }
 
     // A new last child of a node.
-    pub fn insert(self, parent: NodeId) -> Inserted
+    #[tactic(auto, using(crate::proofs::Prechecks::refused_at_once, crate::proofs::Prechecks::not_refused, crate::proofs::Prechecks::not_broken, crate::proofs::Prechecks::few_live, crate::proofs::Prechecks::free_inside), unfolding(crate::specs::Calls::insert, arithmetic::specs::Tests::same))]
+    pub fn insert(mut self, parent: NodeId) -> Inserted
         ensures { inserted_of result ≡ insert self parent }
     {
-        match self.precheck(parent) {
-            Verdict::Refused(word) => {
-                return Inserted {
-                    answer: NewId::Refused(word),
-                    tree: self,
-                };
-            }
-            Verdict::Accepted => {
-                let index = self.free;
-                if index == NIL {
-                    return Inserted {
-                        answer: NewId::Refused(Refusal::Full),
-                        tree: self,
-                    };
-                }
-                let slots = self.slots;
-                let id = links::id_at(slots, index);
-                let next = nodes::insert_at(self, parent.index);
-                return Inserted {
-                    answer: NewId::Id(id),
-                    tree: next,
-                };
-            }
+        if let Err(word) = self.precheck(parent) {
+            return Reply::refused(self, word);
         }
+        let index = self.free;
+        if index == NIL {
+            return Reply::refused(self, Refusal::Full);
+        }
+        let id = links::id_at(self.slots, index);
+        nodes::insert_at(&mut self, parent.index);
+        Reply::accepted(self, id)
     }
 
     // The node and all below it leave the tree.
-    pub fn remove(self, d: NodeId) -> Changed
+    #[tactic(auto, using(crate::proofs::Prechecks::refused_at_once, crate::proofs::Prechecks::not_refused, crate::proofs::Prechecks::not_broken, crate::proofs::Prechecks::lives, crate::proofs::WholeTrees::the_walk_lists_the_subtree), unfolding(crate::specs::Calls::remove, crate::specs::Calls::remove_at, arithmetic::specs::Tests::same))]
+    pub fn remove(mut self, d: NodeId) -> Changed
         ensures { changed_of result ≡ remove self d }
     {
-        match self.precheck(d) {
-            Verdict::Refused(word) => {
-                return Changed {
-                    verdict: Verdict::Refused(word),
-                    tree: self,
-                };
-            }
-            Verdict::Accepted => {
-                if d.index == 0 {
-                    return Changed {
-                        verdict: Verdict::Refused(Refusal::Root),
-                        tree: self,
-                    };
-                }
-                let next = nodes::remove_at(self, d.index);
-                return Changed {
-                    verdict: Verdict::Accepted,
-                    tree: next,
-                };
-            }
+        if let Err(word) = self.precheck(d) {
+            return Reply::refused(self, word);
         }
+        if d.index == 0 {
+            return Reply::refused(self, Refusal::Root);
+        }
+        nodes::remove_at(&mut self, d.index);
+        Reply::accepted(self, ())
     }
 
     // Where a read finds the node's field: every read of a field is refused as this is.
-    pub fn field_place(self, d: NodeId) -> FieldPlace
+    #[tactic(auto, unfolding(crate::specs::Answers::field_place))]
+    pub fn field_place(self, d: NodeId) -> Result<usize, Refusal>
         ensures { result ≡ field_place self d }
     {
-        match self.precheck(d) {
-            Verdict::Refused(word) => FieldPlace::Refused(word),
-            Verdict::Accepted => {
-                let own = self.fields;
-                match fields::field_place(own, d) {
-                    Place::Nowhere => FieldPlace::Refused(Refusal::Fieldless),
-                    Place::At(i) => FieldPlace::At(i),
-                }
-            }
-        }
+        self.precheck(d)?;
+        fields::field_place(self.fields, d).ok_or(Refusal::Fieldless)
     }
 
     // The text of the node's field, 0 past its length.
-    pub fn field_text(self, d: NodeId) -> FieldText
+    #[tactic(auto, using(crate::proofs::TakenLaws::a_read_is_refused, crate::proofs::TakenLaws::a_read_finds_the_field), unfolding(crate::specs::Calls::field_text))]
+    pub fn field_text(self, d: NodeId) -> Result<FieldText, Refusal>
         ensures { field_text_of result ≡ (field_text self d).answer }
     {
-        match self.field_place(d) {
-            FieldPlace::Refused(word) => {
-                let none = [0u8; 64];
-                FieldText {
-                    answer: TextLength::Refused(word),
-                    bytes: none,
-                }
-            }
-            FieldPlace::At(i) => {
-                let own = self.fields;
-                let f = fields::field_at(own, i);
-                let bytes = f.shown();
-                FieldText {
-                    answer: TextLength::Bytes(f.len),
-                    bytes: bytes,
-                }
-            }
-        }
+        let i = self.field_place(d)?;
+        let f = fields::field_at(self.fields, i);
+        Ok(FieldText {
+            bytes: f.shown(),
+            len: f.len,
+        })
     }
 
     // Where the caret of the node's field stands.
-    pub fn field_cursor(self, d: NodeId) -> Caret
-        ensures { caret_answer result ≡ (field_cursor self d).answer }
+    #[tactic(auto, using(crate::proofs::TakenLaws::a_read_is_refused, crate::proofs::TakenLaws::a_read_finds_the_field), unfolding(crate::specs::Calls::field_cursor))]
+    pub fn field_cursor(self, d: NodeId) -> Result<u8, Refusal>
+        ensures { answered 0 result ≡ (field_cursor self d).answer }
     {
-        match self.field_place(d) {
-            FieldPlace::Refused(word) => Caret::Refused(word),
-            FieldPlace::At(i) => {
-                let own = self.fields;
-                let f = fields::field_at(own, i);
-                Caret::At(f.cursor)
-            }
-        }
+        let i = self.field_place(d)?;
+        let f = fields::field_at(self.fields, i);
+        Ok(f.cursor)
     }
 
     // A field for the node; one that it has stays.
+    #[tactic(auto, unfolding(crate::specs::Calls::make_field, crate::specs::Calls::on_live, crate::specs::Calls::guarded, crate::specs::Answers::precheck))]
     pub fn make_field(self, d: NodeId) -> Changed
         ensures { changed_of result ≡ make_field self d }
     {
-        match self.precheck(d) {
-            Verdict::Refused(word) => Changed {
-                verdict: Verdict::Refused(word),
-                tree: self,
-            },
-            Verdict::Accepted => {
-                let own = self.fields;
-                match fields::field_place(own, d) {
-                    Place::At(i) => Changed {
-                        verdict: Verdict::Accepted,
-                        tree: self,
-                    },
-                    Place::Nowhere => self.take_field(d),
-                }
-            }
+        if let Err(word) = self.precheck(d) {
+            return Reply::refused(self, word);
         }
+        if fields::field_place(self.fields, d).is_some() {
+            return Reply::accepted(self, ());
+        }
+        self.take_field(d)
     }
 
     // The first free field for a node that has none, after those of dead owners are cleared.
-    fn take_field(self, d: NodeId) -> Changed
-        ensures { changed_of result ≡ take_field self d nothing }
+    #[tactic(auto, using(crate::proofs::TakenLaws::none_free, crate::proofs::TakenLaws::some_free), unfolding(crate::specs::Trees::with_fields))]
+    fn take_field(mut self, d: NodeId) -> Changed
+        ensures { changed_of result ≡ take_field self d None }
     {
-        let limits = self.limits;
-        let slots = self.slots;
-        let held = self.fields;
-        let cleared = fields::reclaim(limits.nodes, slots, held);
+        let cleared = fields::reclaim(self.limits.nodes, self.slots, self.fields);
         if fields::all_taken(cleared) {
-            return Changed {
-                verdict: Verdict::Refused(Refusal::Full),
-                tree: self,
-            };
+            return Reply::refused(self, Refusal::Full);
         }
-        let taken = fields::claim(d, cleared);
-        let mut out = self;
-        out.fields = taken;
-        Changed {
-            verdict: Verdict::Accepted,
-            tree: out,
-        }
+        self.fields = fields::claim(d, cleared);
+        Reply::accepted(self, ())
     }
 
     // A layout pass, where one is due or the viewport is another.
-    pub fn solve(self, view: Viewport) -> Changed
+    #[tactic(auto, unfolding(crate::specs::Calls::solve, crate::specs::Calls::guarded, crate::specs::Trees::with_pass))]
+    pub fn solve(mut self, view: Viewport) -> Changed
         ensures { changed_of result ≡ solve self view }
     {
         if rules::broken(self) {
-            return Changed {
-                verdict: Verdict::Refused(Refusal::Broken),
-                tree: self,
-            };
+            return Reply::refused(self, Refusal::Broken);
         }
-        let before = self.solved_for;
-        if !self.dirty & same_view(before, view) {
-            return Changed {
-                verdict: Verdict::Accepted,
-                tree: self,
-            };
+        if !self.dirty && layout::same_view(self.solved_for, view) {
+            return Reply::accepted(self, ());
         }
-        let slots = self.slots;
-        let held = self.layout;
-        let placed = layout::solve(slots, held, view);
-        let mut out = self;
-        out.layout = placed;
-        out.layout_passes = scalar::increment(self.layout_passes);
-        out.solved_for = view;
-        out.dirty = false;
-        Changed {
-            verdict: Verdict::Accepted,
-            tree: out,
-        }
+        self.layout = layout::solve(self.slots, self.layout, view);
+        self.layout_passes = scalar::increment(self.layout_passes);
+        self.solved_for = view;
+        self.dirty = false;
+        Reply::accepted(self, ())
     }
 
     // The node's base style.
-    pub fn set_style(self, d: NodeId, style: Style) -> Changed
+    #[tactic(auto, using(crate::proofs::Prechecks::refused_at_once, crate::proofs::Prechecks::not_refused, crate::proofs::Prechecks::a_live_id_is_inside), unfolding(crate::specs::Calls::set_style))]
+    pub fn set_style(mut self, d: NodeId, style: Style) -> Changed
         ensures { changed_of result ≡ set_style self d style }
     {
-        match self.precheck(d) {
-            Verdict::Refused(word) => Changed {
-                verdict: Verdict::Refused(word),
-                tree: self,
-            },
-            Verdict::Accepted => {
-                let next = wearing::style_at(self, d.index, style);
-                Changed {
-                    verdict: Verdict::Accepted,
-                    tree: next,
-                }
-            }
+        if let Err(word) = self.precheck(d) {
+            return Reply::refused(self, word);
         }
+        wearing::style_at(&mut self, d.index, style);
+        Reply::accepted(self, ())
     }
 
     // The node's sixteen patch numbers.
-    pub fn set_state_table(self, d: NodeId, table: [u16; 16]) -> Changed
+    #[tactic(auto, using(crate::proofs::Prechecks::refused_at_once, crate::proofs::Prechecks::not_refused, crate::proofs::Prechecks::a_live_id_is_inside), unfolding(crate::specs::Calls::set_state_table))]
+    pub fn set_state_table(mut self, d: NodeId, table: [u16; 16]) -> Changed
         ensures { changed_of result ≡ set_state_table self d table }
     {
-        match self.precheck(d) {
-            Verdict::Refused(word) => Changed {
-                verdict: Verdict::Refused(word),
-                tree: self,
-            },
-            Verdict::Accepted => {
-                if state::table_in_pool(self.patch_count, table) {
-                    let next = wearing::table_at(self, d.index, table);
-                    return Changed {
-                        verdict: Verdict::Accepted,
-                        tree: next,
-                    };
-                }
-                Changed {
-                    verdict: Verdict::Refused(Refusal::Foreign),
-                    tree: self,
-                }
-            }
+        if let Err(word) = self.precheck(d) {
+            return Reply::refused(self, word);
         }
+        if !state::table_in_pool(self.patch_count, table) {
+            return Reply::refused(self, Refusal::Foreign);
+        }
+        wearing::table_at(&mut self, d.index, table);
+        Reply::accepted(self, ())
     }
 
     // The pool: the first `count` of the patches. Every table and all bits are cleared.
-    pub fn set_patch_pool(self, patches: [StatePatch; 64], count: u32) -> Changed
+    // Kept: an array with a count, since that is the project's call: a count of 65 is refused by 7 with no patch behind it.
+    #[tactic(auto, using(crate::proofs::Prechecks::few_slots), unfolding(crate::specs::Calls::set_patch_pool, crate::specs::Calls::guarded))]
+    pub fn set_patch_pool(mut self, patches: [StatePatch; 64], count: u32) -> Changed
         ensures { changed_of result ≡ set_patch_pool self patches count }
     {
         if rules::broken(self) {
-            return Changed {
-                verdict: Verdict::Refused(Refusal::Broken),
-                tree: self,
-            };
+            return Reply::refused(self, Refusal::Broken);
         }
         if 64 < count {
-            return Changed {
-                verdict: Verdict::Refused(Refusal::Long),
-                tree: self,
-            };
+            return Reply::refused(self, Refusal::Long);
         }
-        let next = wearing::pool(self, patches, count);
-        Changed {
-            verdict: Verdict::Accepted,
-            tree: next,
-        }
+        wearing::set_pool(&mut self, patches, count);
+        Reply::accepted(self, ())
     }
 }

@@ -1,69 +1,56 @@
 // Nodes come and go: what an accepted insert or removal does to the tree.
-ghost use Rattle.std.specs.Prelude.{cond, ◌≡◌, ◌≤◌, ◌<◌};
+ghost use Rattle.std.specs.Prelude.{cond, ◌≡◌, ◌≤◌, ◌<◌, None, Some};
 ghost use Rattle.arena.specs.Slots.{id_at, unlink, NIL};
 ghost use Rattle.arena.specs.Support.Lists.{walked};
 ghost use Rattle.arithmetic.specs.Tests.{same};
-ghost use Rattle.field.specs.declared.MaybeId.TheVariants.{Absent, Present};
-ghost use Rattle.text.specs.Refusal.{accepted};
-ghost use Rattle.tree.specs.Answers.{neighbour_of};
 ghost use Rattle.tree.specs.Calls.{insert_at, with_freed};
 
-use crate::answers::Neighbour;
 use crate::{Slot, Ui};
 use arena::links;
+use arena::links::{Freed, NIL};
 use boxes::{nodes, start};
-
-// No neighbour.
-const NIL: u32 = 4294967295;
+use field::NodeId;
 
 // A new last child of slot `parent`, in the first free slot.
-pub(crate) fn insert_at(u: Ui, parent: u32) -> Ui
-    requires { (u.live ≤ 128) × (u.free < 128) }
-    ensures { result ≡ insert_at u parent }
+#[tactic(auto, unfolding(crate::specs::Calls::insert_at, crate::specs::Trees::with_nodes))]
+pub(crate) fn insert_at(u: &mut Ui, parent: u32)
+    requires { (u.old.live ≤ 128) × (u.old.free < 128) }
+    ensures { u.new ≡ insert_at u.old parent }
 {
-    let slots = u.slots;
     let index = u.free;
-    let s = links::slot_at(slots, index);
-    let new = nodes::taken(s, parent);
-    let placed = links::with_slot(slots, index, new);
     let k = index as usize;
-    let mut out = u;
-    out.slots = links::link_last(placed, parent, index);
-    out.layout[k] = start::fresh_layout();
-    out.states[k] = start::fresh_state();
-    out.free = s.next_sibling;
-    out.live = u.live + 1;
-    out.dirty = true;
-    out
+    let s = links::slot_at(u.slots, index);
+    let placed = links::with_slot(u.slots, index, nodes::taken(s, parent));
+    u.slots = links::link_last(placed, parent, index);
+    u.layout[k] = start::fresh_layout();
+    u.states[k] = start::fresh_state();
+    u.free = s.next_sibling;
+    u.live += 1;
+    u.dirty = true;
 }
 
 // Slot `index` and all below it leave the tree, as far as the list of 128 goes; their state slots are as new.
-pub(crate) fn remove_at(mut u: Ui, index: u32) -> Ui
-    ensures { result ≡ with_freed u (unlink u.slots index) (walked (unlink u.slots index) index) }
+#[tactic(auto, unfolding(crate::specs::Trees::with_nodes))]
+pub(crate) fn remove_at(u: &mut Ui, index: u32)
+    ensures { u.new ≡ with_freed u.old (unlink u.old.slots index) (walked (unlink u.old.slots index) index) }
 {
-    let slots = u.slots;
-    let states = u.states;
-    let rest = links::unlink(slots, index);
-    let o = links::freed_order(rest, index);
-    let f = links::free_listed(rest, u.free, o);
-    let kept = f.slots;
-    let reset = nodes::reset_states(states, o);
-    let n = links::listed_count(o);
-    let live = nodes::saturating_sub(u.live, n);
-    u.slots = kept;
-    u.states = reset;
-    u.free = f.free;
-    u.live = live;
+    let rest = links::unlink(u.slots, index);
+    let order = links::freed_order(rest, index);
+    let Freed { slots, free } = links::free_listed(rest, u.free, order);
+    u.slots = slots;
+    u.states = nodes::reset_states(u.states, order);
+    u.free = free;
+    u.live = u.live.saturating_sub(order.count as u32);
     u.dirty = true;
-    u
 }
 
 // The node that a link leads to.
-pub(crate) fn neighbour(slots: [Slot; 128], i: u32) -> Neighbour
-    ensures { neighbour_of result ≡ accepted (cond (same i NIL) Absent (Present (id_at slots i))) }
+#[tactic(auto, unfolding(arithmetic::specs::Tests::same))]
+pub(crate) fn neighbour(slots: [Slot; 128], i: u32) -> Option<NodeId>
+    ensures { result ≡ cond (same i NIL) None (Some (id_at slots i)) }
 {
     if i == NIL {
-        return Neighbour::Nobody;
+        return None;
     }
-    Neighbour::Node(links::id_at(slots, i))
+    Some(links::id_at(slots, i))
 }

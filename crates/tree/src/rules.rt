@@ -8,25 +8,19 @@ use arena::rules::links_well;
 use boxes::state;
 
 // Whether the tree breaks a rule, the link rules or another.
+#[tactic(auto, unfolding(crate::specs::Broken::broken, crate::specs::Broken::links_well))]
 pub fn broken(u: Ui) -> bool
     ensures { result ≡ rules.broken u }
 {
-    let limits = u.limits;
-    let n = limits.nodes;
-    if 128 < n {
-        return true;
-    }
-    let slots = u.slots;
-    let states = u.states;
-    let stated = u.stated;
-    let fields = u.fields;
-    let linked = links_well(n, slots, u.free, u.live);
-    let worn = state::states_well(u.patch_count, n, states);
-    let bearing = state::stated_well(n, stated, u.stated_count);
-    let owners = owners_well(fields);
-    let texts = fields_ok(fields);
-    let counts = (1 <= n) & (n <= 128);
-    !(counts
-        & ((u.patch_count <= 64)
-            & (linked & (worn & (bearing & ((u.output_count <= n) & (owners & texts)))))))
+    let n = u.limits.nodes;
+    let well = (1 <= n)
+        && (n <= 128)
+        && (u.patch_count <= 64)
+        && links_well(n, u.slots, u.free, u.live)
+        && state::states_well(u.patch_count, n, u.states)
+        && state::stated_well(n, u.stated, u.stated_count)
+        && (u.output_count <= n)
+        && owners_well(u.fields)
+        && fields_ok(u.fields);
+    !well
 }

@@ -1,10 +1,11 @@
-// What nodes wear: styles, tables and the pool over the whole tree, by the bits of each node.
-ghost use Rattle.std.specs.Prelude.{◌≡◌};
+// What nodes wear: styles, tables and the pool over the whole tree, by the bits of each node. The tree is lent, since a whole one is
+// costly to pass on.
+ghost use Rattle.std.specs.Prelude.{◌≡◌, ◌<◌, ◌≤◌};
 ghost use Rattle.boxes.specs.States.{wear, bare_all};
 ghost use Rattle.arithmetic.specs.Tests.{from_to};
 ghost use Rattle.tree.specs.Calls.{pooled};
 ghost use Rattle.tree.specs.Wearing.{appearance_of, with_appearance, styled_at, tabled_at};
-ghost use Rattle.tree.specs.Trees.{pool_of};
+ghost use Rattle.tree.specs.Trees.{limit_of, pool_of};
 
 use crate::{StatePatch, Style, Ui};
 use boxes::state;
@@ -12,110 +13,82 @@ use boxes::state::NO_PATCH;
 use boxes::wearing::{bare, based, styled, tabled, worn};
 
 // Slot i wears what its table has for the bits. Past the slots nothing is stored: what is read there wears patch 0.
-pub(crate) fn wear(u: Ui, i: u32, bits: u8) -> Ui
-    ensures { result ≡ with_appearance u (wear (pool_of u) (appearance_of u) i bits) }
+#[tactic(auto, unfolding(crate::specs::Trees::with_styles, crate::specs::Wearing::with_appearance, boxes::specs::States::wear, boxes::specs::Styles::layout_at, boxes::specs::Styles::state_at, arithmetic::specs::Tests::same))]
+pub fn wear(u: &mut Ui, i: u32, bits: u8)
+    ensures { u.new ≡ with_appearance u.old (wear (pool_of u.old) (appearance_of u.old) i bits) }
 {
-    let patches = u.patches;
-    let count = u.patch_count;
-    let mut out = u;
     if 128 <= i {
-        let first = state::touches(patches, count, 0);
-        let none = state::touches(patches, count, NO_PATCH);
-        out.dirty = u.dirty | (first | none);
-        return out;
+        let pool = state::pool(&u.patches, u.patch_count);
+        u.dirty |= state::touches(pool, 0) | state::touches(pool, NO_PATCH);
+        return;
     }
     let k = i as usize;
-    let all = u.states;
-    let s = all[k];
-    let table = s.table;
-    let next = state::entry_of(table, bits);
-    out.states[k] = worn(s, next, bits);
+    let s = u.states[k];
+    let next = state::entry_of(s.table, bits);
+    u.states[k] = worn(s, next, bits);
     if next == s.applied {
-        return out;
+        return;
     }
-    let base = s.base;
-    let layout = u.layout;
-    let l = layout[k];
-    let style = state::patch_style(patches, count, next, base);
-    let before = state::touches(patches, count, s.applied);
-    let after = state::touches(patches, count, next);
-    out.layout[k] = styled(l, style);
-    out.dirty = u.dirty | (before | after);
-    out
+    let l = u.layout[k];
+    let pool = state::pool(&u.patches, u.patch_count);
+    let style = state::patch_style(pool, next, s.base);
+    let moved = state::touches(pool, s.applied) | state::touches(pool, next);
+    u.layout[k] = styled(l, style);
+    u.dirty |= moved;
 }
 
 // Slot i gets a base style; it shows where no patch is worn.
-pub(crate) fn style_at(u: Ui, i: u32, style: Style) -> Ui
-    ensures { result ≡ styled_at u i style }
+#[tactic(auto, unfolding(crate::specs::Trees::with_styles, crate::specs::Wearing::styled_at, boxes::specs::Styles::layout_at, boxes::specs::Styles::state_at, arithmetic::specs::Tests::same))]
+pub(crate) fn style_at(u: &mut Ui, i: u32, style: Style)
+    requires { i < 128 }
+    ensures { u.new ≡ styled_at u.old i style }
 {
-    let mut out = u;
-    out.dirty = true;
-    if 128 <= i {
-        return out;
-    }
     let k = i as usize;
-    let all = u.states;
-    let s = all[k];
-    out.states[k] = based(s, style);
-    if s.applied != NO_PATCH {
-        return out;
+    let s = u.states[k];
+    u.states[k] = based(s, style);
+    u.dirty = true;
+    if s.applied == NO_PATCH {
+        u.layout[k] = styled(u.layout[k], style);
     }
-    let layout = u.layout;
-    let l = layout[k];
-    out.layout[k] = styled(l, style);
-    out
 }
 
 // Slot i gets a table, and wears what it has for the bits of before.
-pub(crate) fn table_at(u: Ui, i: u32, table: [u16; 16]) -> Ui
-    ensures { result ≡ tabled_at u i table }
+#[tactic(auto, unfolding(crate::specs::Trees::with_styles, crate::specs::Wearing::with_appearance, crate::specs::Wearing::tabled_at, boxes::specs::Styles::state_at))]
+pub(crate) fn table_at(u: &mut Ui, i: u32, table: [u16; 16])
+    requires { i < 128 }
+    ensures { u.new ≡ tabled_at u.old i table }
 {
-    if 128 <= i {
-        return wear(u, i, 0);
-    }
     let k = i as usize;
-    let all = u.states;
-    let s = all[k];
-    let mut out = u;
-    out.states[k] = tabled(s, table);
-    wear(out, i, s.bits)
+    let s = u.states[k];
+    u.states[k] = tabled(s, table);
+    wear(u, i, s.bits);
 }
 
-// Every slot below the limit loses table, bits and patch. Past the slots nothing is stored, and a patch counts as worn.
-fn bare_all(u: Ui, limit: u32) -> Ui
-    ensures { result ≡ with_appearance u (bare_all (appearance_of u) (from_to 0 limit)) }
+// Every slot below the limit loses table, bits and patch.
+#[tactic(auto, using(crate::proofs::Wearings::bare_start, crate::proofs::Wearings::bare_more, crate::proofs::Wearings::bare_done, crate::proofs::Wearings::bared_as_it_is, crate::proofs::Wearings::bared_anew), unfolding(crate::specs::Trees::with_styles, boxes::specs::Styles::layout_at, boxes::specs::Styles::state_at, arithmetic::specs::Tests::same))]
+fn bare_all(u: &mut Ui)
+    requires { limit_of u.old ≤ 128 }
+    ensures { u.new ≡ with_appearance u.old (bare_all (appearance_of u.old) (from_to 0 (limit_of u.old))) }
 {
-    let mut out = u;
-    let mut i: u32 = 0;
-    while i < limit {
-        let at = i;
-        i += 1;
-        if 128 <= at {
-            out.dirty = true;
-            continue;
+    // Kept: an index, since two arrays are written at one place, and nothing is known of what a `zip` of two `iter_mut` wrote.
+    for k in 0..u.limits.nodes as usize {
+        let s = u.states[k];
+        u.states[k] = bare(s.base);
+        if s.applied != NO_PATCH {
+            u.layout[k] = styled(u.layout[k], s.base);
+            u.dirty = true;
         }
-        let k = at as usize;
-        let s = out.states[k];
-        let base = s.base;
-        out.states[k] = bare(base);
-        if s.applied == NO_PATCH {
-            continue;
-        }
-        let l = out.layout[k];
-        out.layout[k] = styled(l, base);
-        out.dirty = true;
     }
-    out
 }
 
 // The pool is the first `count` of the patches; every slot below the limit loses table, bits and patch.
-pub(crate) fn pool(u: Ui, patches: [StatePatch; 64], count: u32) -> Ui
-    ensures { result ≡ pooled u patches count }
+#[tactic(auto, unfolding(crate::specs::Calls::pooled, crate::specs::Trees::with_styles, crate::specs::Trees::with_pool, crate::specs::Wearing::with_appearance))]
+pub(crate) fn set_pool(u: &mut Ui, patches: [StatePatch; 64], count: u32)
+    requires { limit_of u.old ≤ 128 }
+    ensures { u.new ≡ pooled u.old patches count }
 {
-    let limits = u.limits;
-    let mut out = bare_all(u, limits.nodes);
-    out.patches = patches;
-    out.patch_count = count;
-    out.stated_count = 0;
-    out
+    bare_all(u);
+    u.patches = patches;
+    u.patch_count = count;
+    u.stated_count = 0;
 }

@@ -1,41 +1,35 @@
 // Edits of a field: characters of each size put into full fields, and every edit at every place.
 ghost use Rattle.std.specs.Prelude.{◌<◌};
 
-use crate::show::{heading, put_quoted};
+use crate::lines::group;
+use crate::show::heading;
 use crate::sums;
 use field::{EditOp, Edited, Field};
-use report::words::at_most;
-use report::{put, put_hex, put_labelled};
-use std::io;
+use std::fmt::Display;
+use std::{fmt, io, str};
 use text::refusal;
-use text::refusal::Verdict;
-
-// The first `len` of the bytes, in quotes.
-fn put_text(rt: &impl Print, bytes: [u8; 64], len: u8) -> io::Result<()> {
-    let n = at_most(len as usize, 64);
-    put_quoted(rt, &bytes[..n])
-}
 
 // Length, caret, and the sum of all 64 bytes.
-fn put_state(rt: &impl Print, f: Field) -> io::Result<()> {
-    let b = f.bytes;
-    put_labelled(rt, b": length ", f.len as u64)?;
-    put_labelled(rt, b", caret ", f.cursor as u64)?;
-    put(rt, b", sum ")?;
-    put_hex(rt, sums::sum_of(&b), 16)
+#[derive(Drop)]
+struct State(Field);
+
+impl Display for State {
+    fn fmt<W: fmt::Write>(&self, f: &mut fmt::Formatter<W>) -> fmt::Result {
+        let State(own) = self;
+        let sum = sums::sum_of(&own.bytes);
+        write!(
+            f,
+            "length {}, caret {}, sum {sum:016x}",
+            own.len, own.cursor
+        )
+    }
 }
 
-fn put_field(rt: &impl Print, f: Field) -> io::Result<()> {
-    put_state(rt, f)?;
-    put(rt, b", ")?;
-    let b = f.bytes;
-    put_text(rt, b, f.len)?;
-    put(rt, b"\n")
-}
-
-fn put_place(rt: &impl Print, f: Field) -> io::Result<()> {
-    put_labelled(rt, b" at ", f.cursor as u64)?;
-    put_labelled(rt, b" of ", f.len as u64)
+// What an edit leaves: the counts, and the text.
+fn outcome(rt: &impl Print, f: Field) -> io::Result<()> {
+    let text = &f.bytes[..usize::from(f.len).min(64)];
+    let shown = str::from_utf8(text).unwrap_or("no text");
+    println!(rt; ": {}, \"{shown}\"", State(f))
 }
 
 // The field with a character more of each size, ten bytes in all.
@@ -48,131 +42,107 @@ fn with_four(f: Field, i: u32) -> Field
         .insert(0x1f600 + i)
 }
 
-// 60 bytes: six characters of each size.
-fn sixty() -> Field {
+// Ten bytes: a character of each size.
+fn ten() -> Field {
+    with_four(Field::empty(), 0)
+}
+
+// 60 bytes, six characters of each size, and an x `more` times.
+fn filled(more: u32) -> Field {
     let mut f = Field::empty();
     for i in 0..6 {
         f = with_four(f, i);
     }
-    f
-}
-
-// 60 bytes, and an x `more` times.
-fn filled(more: u32) -> Field {
-    let mut f = sixty();
-    for i in 0..more {
-        f = f.insert(0x78);
-    }
-    f
+    (0..more).fold(f, |f, _| f.insert(0x78))
 }
 
 // The field with the caret n characters from its start.
 fn at(f: Field, n: u32) -> Field {
-    let mut g = f.edit(EditOp::Home);
-    for i in 0..n {
-        g = g.edit(EditOp::Right);
-    }
-    g
+    (0..n).fold(f.edit(EditOp::Home), |f, _| f.edit(EditOp::Right))
 }
 
 fn insertion(rt: &impl Print, f: Field, ch: u32) -> io::Result<()> {
-    put(rt, b"insert ")?;
-    put_hex(rt, ch as u64, 6)?;
-    put_place(rt, f)?;
-    put_field(rt, f.insert(ch))
+    print!(rt; "insert {ch:06x} at {} of {}", f.cursor, f.len)?;
+    outcome(rt, f.insert(ch))
 }
 
-fn each_size(rt: &impl Print, f: Field) -> io::Result<()> {
-    insertion(rt, f, 0x79)?;
-    insertion(rt, f, 0xdf)?;
-    insertion(rt, f, 0x4e2d)?;
-    insertion(rt, f, 0x10348)
-}
-
+// A character of each size, put in at the start, in the middle and at the end.
 fn each_place(rt: &impl Print, f: Field) -> io::Result<()> {
-    each_size(rt, f.edit(EditOp::Home))?;
-    each_size(rt, at(f, 12))?;
-    each_size(rt, f.edit(EditOp::End))
+    for g in [f.edit(EditOp::Home), at(f, 12), f.edit(EditOp::End)] {
+        insertion(rt, g, 0x79)?;
+        insertion(rt, g, 0xdf)?;
+        insertion(rt, g, 0x4e2d)?;
+        insertion(rt, g, 0x10348)?;
+    }
+    Ok(())
 }
 
 fn insertions(rt: &impl Print) -> io::Result<()> {
-    heading(
+    group(
         rt,
-        b"Characters of each size, put into fields of 61 to 64 bytes",
-    )?;
-    each_place(rt, filled(1))?;
-    each_place(rt, filled(2))?;
-    each_place(rt, filled(3))?;
-    each_place(rt, filled(4))
+        "Characters of each size, put into fields of 61 to 64 bytes",
+        &[1, 2, 3, 4],
+        |more| each_place(rt, filled(more)),
+    )
 }
 
 fn no_characters(rt: &impl Print) -> io::Result<()> {
-    heading(rt, b"Codes that are no characters")?;
-    let f = at(with_four(Field::empty(), 0), 2);
-    insertion(rt, f, 0xd800)?;
-    insertion(rt, f, 0xdbff)?;
-    insertion(rt, f, 0xdc00)?;
-    insertion(rt, f, 0xdfff)?;
-    insertion(rt, f, 0x110000)?;
-    insertion(rt, f, 0xffffffff)
+    group(
+        rt,
+        "Codes that are no characters",
+        &[0xd800, 0xdbff, 0xdc00, 0xdfff, 0x110000, 0xffffffff],
+        |code| insertion(rt, at(ten(), 2), code),
+    )
 }
 
-fn put_name(rt: &impl Print, op: EditOp) -> io::Result<()> {
-    match op {
-        EditOp::Backspace => put(rt, b"backspace"),
-        EditOp::Delete => put(rt, b"delete"),
-        EditOp::Left => put(rt, b"left"),
-        EditOp::Right => put(rt, b"right"),
-        EditOp::Home => put(rt, b"home"),
-        EditOp::End => put(rt, b"end"),
-    }
-}
+// Every edit, and the names that they are written by.
+const EDITS: [(EditOp, &str); 6] = [
+    (EditOp::Backspace, "backspace"),
+    (EditOp::Delete, "delete"),
+    (EditOp::Left, "left"),
+    (EditOp::Right, "right"),
+    (EditOp::Home, "home"),
+    (EditOp::End, "end"),
+];
 
-fn edit(rt: &impl Print, f: Field, op: EditOp) -> io::Result<()> {
-    put_name(rt, op)?;
-    put_place(rt, f)?;
-    put_field(rt, f.edit(op))
+fn edit(rt: &impl Print, f: Field, name: &str, op: EditOp) -> io::Result<()> {
+    print!(rt; "{name} at {} of {}", f.cursor, f.len)?;
+    outcome(rt, f.edit(op))
 }
 
 fn each_edit(rt: &impl Print, f: Field) -> io::Result<()> {
-    edit(rt, f, EditOp::Backspace)?;
-    edit(rt, f, EditOp::Delete)?;
-    edit(rt, f, EditOp::Left)?;
-    edit(rt, f, EditOp::Right)?;
-    edit(rt, f, EditOp::Home)?;
-    edit(rt, f, EditOp::End)
+    for (op, name) in EDITS {
+        edit(rt, f, name, op)?;
+    }
+    Ok(())
 }
 
 fn small(rt: &impl Print) -> io::Result<()> {
     heading(
         rt,
-        b"Every edit of an empty field, and of one with a character of each size",
+        "Every edit of an empty field, and of one with a character of each size",
     )?;
     each_edit(rt, Field::empty())?;
-    let f = with_four(Field::empty(), 0);
-    each_edit(rt, at(f, 0))?;
-    each_edit(rt, at(f, 1))?;
-    each_edit(rt, at(f, 2))?;
-    each_edit(rt, at(f, 3))?;
-    each_edit(rt, at(f, 4))
+    for n in 0..=4 {
+        each_edit(rt, at(ten(), n))?;
+    }
+    Ok(())
 }
 
 fn full(rt: &impl Print) -> io::Result<()> {
-    heading(rt, b"Every edit of a full field")?;
-    let f = filled(4);
-    each_edit(rt, at(f, 0))?;
-    each_edit(rt, at(f, 12))?;
-    each_edit(rt, at(f, 13))?;
-    each_edit(rt, at(f, 14))?;
-    each_edit(rt, at(f, 15))?;
-    each_edit(rt, at(f, 28))
+    group(
+        rt,
+        "Every edit of a full field",
+        &[0, 12, 13, 14, 15, 28],
+        |n| each_edit(rt, at(filled(4), n)),
+    )
 }
 
-// One edit, `times` in a row.
-fn repeated(rt: &impl Print, op: EditOp, start: Field, times: u32) -> io::Result<()> {
+// One edit, 29 times in a row, until nothing is left.
+fn repeated(rt: &impl Print, op: EditOp, name: &str, start: Field) -> io::Result<()> {
     let mut f = start;
-    for i in 0..times {
-        edit(rt, f, op)?;
+    for _ in 0..29 {
+        edit(rt, f, name, op)?;
         f = f.edit(op);
     }
     Ok(())
@@ -180,40 +150,35 @@ fn repeated(rt: &impl Print, op: EditOp, start: Field, times: u32) -> io::Result
 
 fn emptied(rt: &impl Print) -> io::Result<()> {
     let f = filled(4);
-    heading(rt, b"A full field, emptied from its end")?;
-    repeated(rt, EditOp::Backspace, f, 29)?;
-    heading(rt, b"A full field, emptied from its start")?;
-    repeated(rt, EditOp::Delete, f.edit(EditOp::Home), 29)
+    heading(rt, "A full field, emptied from its end")?;
+    repeated(rt, EditOp::Backspace, "backspace", f)?;
+    heading(rt, "A full field, emptied from its start")?;
+    repeated(rt, EditOp::Delete, "delete", f.edit(EditOp::Home))
 }
 
-fn answer(rt: &impl Print, e: Edited) -> io::Result<()> {
-    let v = e.verdict;
-    let f = e.field;
-    put_labelled(rt, b" gives ", v.number() as u64)?;
-    put_state(rt, f)?;
-    put(rt, b"\n")
+fn answer(rt: &impl Print, name: &str, asked: &str, e: Edited) -> io::Result<()> {
+    let number = refusal::number(e.verdict);
+    println!(rt; "{name}, {asked} gives {number}: {}", State(e.field))
 }
 
 // What a caller is answered who asks for an edit and for a character, of the field with a character of each size and these counts.
-fn asked(rt: &impl Print, name: &[u8], len: u8, cursor: u8) -> io::Result<()> {
-    let mut f = with_four(Field::empty(), 0);
-    f.len = len;
-    f.cursor = cursor;
-    put(rt, name)?;
-    put(rt, b", left")?;
-    answer(rt, f.try_edit(EditOp::Left))?;
-    put(rt, name)?;
-    put(rt, b", insert")?;
-    answer(rt, f.try_insert(0x79))
+fn asked(rt: &impl Print, name: &str, len: u8, cursor: u8) -> io::Result<()> {
+    let f = Field {
+        len,
+        cursor,
+        ..ten()
+    };
+    answer(rt, name, "left", f.try_edit(EditOp::Left))?;
+    answer(rt, name, "insert", f.try_insert(0x79))
 }
 
 fn broken(rt: &impl Print) -> io::Result<()> {
-    heading(rt, b"Fields that break the rules, and one that keeps them")?;
-    asked(rt, b"sound", 10, 3)?;
-    asked(rt, b"length above 64", 65, 3)?;
-    asked(rt, b"caret past the length", 10, 11)?;
-    asked(rt, b"caret inside a character", 10, 2)?;
-    asked(rt, b"text cut short", 9, 3)
+    heading(rt, "Fields that break the rules, and one that keeps them")?;
+    asked(rt, "sound", 10, 3)?;
+    asked(rt, "length above 64", 65, 3)?;
+    asked(rt, "caret past the length", 10, 11)?;
+    asked(rt, "caret inside a character", 10, 2)?;
+    asked(rt, "text cut short", 9, 3)
 }
 
 pub(crate) fn run(rt: &impl Print) -> io::Result<()> {

@@ -14,11 +14,10 @@ mod sums;
 use std::io;
 
 fn main(rt: HostRuntime) -> io::Result<()> {
-    let rt = &rt;
-    characters::run(rt)?;
-    sums::run(rt)?;
-    edits::run(rt)?;
-    readings::run(rt)?;
-    breaks::run(rt)?;
-    shares::run(rt)
+    characters::run(&rt, rt.alloc())?;
+    sums::run(&rt)?;
+    edits::run(&rt)?;
+    readings::run(&rt)?;
+    breaks::run(&rt)?;
+    shares::run(&rt)
 }

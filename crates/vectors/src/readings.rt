@@ -1,111 +1,42 @@
 // Fields typed in and read as metres, and texts measured.
-use crate::lines;
-use crate::lines::Kind;
-use crate::show::{put_quoted, put_width};
+use crate::lines::group;
+use crate::show::Width;
 use field::Field;
-use field::metres::Metres;
-use report::{put, put_number};
 use std::io;
 use text::refusal;
 
-fn wide(b: u8) -> u32 {
-    b as u32
-}
-
-// A field with a character for each byte.
-fn typed(s: &[u8]) -> Field {
-    let mut f = Field::empty();
-    for i in 0..s.len() {
-        f = f.insert(wide(s[i]));
-    }
-    f
-}
-
-fn put_metres(rt: &impl Print, m: Metres) -> io::Result<()> {
-    match m {
-        Metres::Centimetres(x) => {
-            put(rt, b"0, ")?;
-            put_number(rt, x as u64)
-        }
-        Metres::Refused(word) => {
-            put_number(rt, refusal::number(word) as u64)?;
-            put(rt, b", 0")
-        }
-    }
-}
-
-// A text, the number that refuses it or 0, and the centimetres.
-pub(crate) fn metres(rt: &impl Print, s: &[u8]) -> io::Result<()> {
-    put_quoted(rt, s)?;
-    put(rt, b": ")?;
-    put_metres(rt, typed(s).metres())?;
-    put(rt, b"\n")
-}
-
-pub(crate) fn width(rt: &impl Print, s: &[u8]) -> io::Result<()> {
-    put_quoted(rt, s)?;
-    put(rt, b": ")?;
-    put_width(rt, text::measure(s))?;
-    put(rt, b"\n")
+// A text typed into a field, the number that refuses it or 0, and the centimetres.
+fn metres(rt: &impl Print, s: &str) -> io::Result<()> {
+    let typed = s
+        .chars()
+        .fold(Field::empty(), |f, ch| f.insert(u32::from(ch)));
+    let m = typed.metres();
+    println!(rt; "\"{s}\": {}, {}", refusal::number(m), m.unwrap_or(0))
 }
 
 pub(crate) fn run(rt: &impl Print) -> io::Result<()> {
-    lines::group(
+    group(
         rt,
-        Kind::Metres,
-        b"Metres: the number of the answer, and centimetres",
-        b"\n\
-        0\n\
-        7\n\
-        7.4\n\
-        7.40\n\
-        007\n\
-        999.99\n\
-        1000\n\
-        7.\n\
-        .5\n\
-        7.405\n\
-        7,4\n\
-        \x207\n\
-        7\x20\n\
-        -1\n\
-        12a\n\
-        12.3a\n\
-        7..4\n\
-        0.05\n\
-        7,40\n\
-        7,\n\
-        ,5\n\
-        ,\n\
-        7,405\n\
-        7,4.0\n\
-        7.4,0\n\
-        7,4,0\n\
-        \x20\n\
-        \x20\x20\x20\n\
-        \x207.4\x20\n\
-        \x20\x20007,5\x20\n\
-        \x200\x20\n\
-        \x201000\x20\n\
-        7.\x20\n\
-        \x20,5\n\
-        7 4\n\
-        7 .4\n\
-        7. 4\n\
-        7, 4\n\
-        \x09\n\
-        \x097\n\
-        7\x09\n",
+        "Metres: the number of the answer, and centimetres",
+        &[
+            "", "0", "7", "7.4", "7.40", "007", "999.99", "1000", "7.", ".5", "7.405", "7,4", " 7",
+            "7 ", "-1", "12a", "12.3a", "7..4", "0.05", "7,40", "7,", ",5", ",", "7,405", "7,4.0",
+            "7.4,0", "7,4,0", " ", "   ", " 7.4 ", "  007,5 ", " 0 ", " 1000 ", "7. ", " ,5",
+            "7 4", "7 .4", "7. 4", "7, 4", "\t", "\t7", "7\t",
+        ],
+        |s| metres(rt, s),
     )?;
-    lines::group(
+    group(
         rt,
-        Kind::Width,
-        b"Widths, in raw units",
-        b"\n\
-        Hi\n\
-        ?\n\
-        \xc3\xa9\n\
-        H\xc3\xa9\xe2\x82\xac\xf0\x9f\x98\x80i\n\
-        \x20!\"#$%&'()*+,-./0123456789:;<=>?@ABCDEFGHIJKLMNOPQRSTUVWXYZ[\\]^_`abcdefghijklmnopqrstuvwxyz{|}~\n",
+        "Widths, in raw units",
+        &[
+            "",
+            "Hi",
+            "?",
+            "é",
+            "Hé€😀i",
+            " !\"#$%&'()*+,-./0123456789:;<=>?@ABCDEFGHIJKLMNOPQRSTUVWXYZ[\\]^_`abcdefghijklmnopqrstuvwxyz{|}~",
+        ],
+        |s| println!(rt; "\"{s}\": {}", Width(text::measure(s.as_bytes()))),
     )
 }

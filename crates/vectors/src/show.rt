@@ -1,44 +1,34 @@
-// The parts of a line on standard output that only vectors have.
-use report::{put, put_hex, put_labelled, put_raw};
-use std::io;
-use text::{Measured, refusal};
+// How the values of a vector are written.
+use std::fmt::Display;
+use std::{fmt, io};
+use text::refusal::Refusal;
 
-pub(crate) fn heading(rt: &impl Print, s: &[u8]) -> io::Result<()> {
-    put(rt, b"# ")?;
-    put(rt, s)?;
-    put(rt, b"\n")
-}
-
-pub(crate) fn put_quoted(rt: &impl Print, s: &[u8]) -> io::Result<()> {
-    put(rt, b"\"")?;
-    put(rt, s)?;
-    put(rt, b"\"")
-}
-
-pub(crate) fn put_yes(rt: &impl Print, yes: bool) -> io::Result<()> {
-    if yes { put(rt, b"yes") } else { put(rt, b"no") }
-}
-
-fn wide(b: u8) -> u64 {
-    b as u64
+pub(crate) fn heading(rt: &impl Print, name: &str) -> io::Result<()> {
+    println!(rt; "# {name}")
 }
 
 // Bytes in base sixteen, a space before each.
-pub(crate) fn put_bytes(rt: &impl Print, s: &[u8]) -> io::Result<()> {
-    for i in 0..s.len() {
-        put(rt, b" ")?;
-        put_hex(rt, wide(s[i]), 2)?;
+#[derive(Drop)]
+pub struct Spaced<'a>(pub &'a [u8]);
+
+impl Display for Spaced<'_> {
+    fn fmt<W: fmt::Write>(&self, f: &mut fmt::Formatter<W>) -> fmt::Result {
+        for b in self.0 {
+            write!(f, " {b:02x}")?;
+        }
+        Ok(())
     }
-    Ok(())
 }
 
 // What a text measures, in raw units, or the number that refuses it.
-pub(crate) fn put_width(rt: &impl Print, m: Measured) -> io::Result<()> {
-    match m {
-        Measured::Width(w) => {
-            put(rt, b"width ")?;
-            put_raw(rt, w)
+#[derive(Drop)]
+pub struct Width(pub Result<i64, Refusal>);
+
+impl Display for Width {
+    fn fmt<W: fmt::Write>(&self, f: &mut fmt::Formatter<W>) -> fmt::Result {
+        match self.0 {
+            Ok(w) => write!(f, "width {w}"),
+            Err(word) => write!(f, "refused {}", word.number()),
         }
-        Measured::Refused(word) => put_labelled(rt, b"refused ", refusal::number(word) as u64),
     }
 }

@@ -1,26 +1,34 @@
 -- Checks over a list by its index: what is left to check from here gives the whole. Assumes nothing.
-use Rattle.std.proofs.Common.{◌≡◌, ℕ, suc, ◌+◌, ◌-◌, ◌<◌, Bool, true, false, ◌&&◌, eqb, List, [], ◌∷◌, length, get_or, ap, ◌∙◌, arith}
+use Rattle.std.proofs.Common.{◌≡◌, ℕ, zero, suc, ◌+◌, ◌<◌, ◌≤◌, Bool, ◌&&◌, eqb, List, [], ◌∷◌, length, get_or, take, refl, ap, ◌∙◌, arith}
+use Rattle.std.specs.Prelude.{zip}
 use mathlib.Core.Bool.{and_assoc}
 use Rattle.arithmetic.specs.Tests.{same, head_or, from_to, all}
-use Rattle.arena.specs.Slots.{NIL, Slots, at, chain, order}
-use Rattle.arena.specs.Rules.{aliveness, once, node_well, free_well, each_once, root_well, linked}
-use Rattle.arena.specs.Support.Lists.{Tallied}
+use Rattle.arena.specs.Slots.{NIL, Slots, no_slot, at, chain, order}
+use Rattle.arena.specs.declared.Slot.{Slot}
+use Rattle.arena.specs.Rules.{once, node_well, free_well, each_once, root_well, linked}
+use Rattle.arena.specs.Support.Lists.{once_by, Tallied}
 
--- ---- a test of every number below a limit
-module _ (p : ℕ → Bool) (n i : ℕ) where
-  rest : i < n → n - i ≡ suc (n - (i + 1))
-  rest h = omega arith
+-- ---- a test of every number below a limit, read off three lists beside each other
+module _ (q : Slot → ℕ → ℕ → Bool) (p : ℕ → Bool) where
+  side_by_side : (n i : ℕ) (s : Slots) (a b : List ℕ) → n ≤ length s → n ≤ length a → n ≤ length b
+      → ((k : ℕ) → k < n → q (get_or s k no_slot) (get_or a k 0) (get_or b k 0) ≡ p (i + k))
+      → all (λ x. q x.0 x.1.0 x.1.1) (take n (zip s (zip a b))) ≡ all p (from_to i n)
+  side_by_side zero i s a b h j k e = refl
+  side_by_side (suc n) i [] a b h j k e = absurd (omega arith)
+  side_by_side (suc n) i (x ∷ s) [] b h j k e = absurd (omega arith)
+  side_by_side (suc n) i (x ∷ s) (y ∷ a) [] h j k e = absurd (omega arith)
+  side_by_side (suc n) i (x ∷ s) (y ∷ a) (z ∷ b) h j k e =
+      let c : i + 0 ≡ i = omega arith in
+      let d : q x y z ≡ p i = e 0 (omega arith) ∙ ap p c in
+      rw (d, side_by_side n (suc i) s a b (omega arith) (omega arith) (omega arith) (λ m o. let v : i + suc m ≡ suc i + m = omega arith in e (suc m) (omega arith) ∙ ap p v))
 
-  pub range_more : {b : Bool} → i < n → b ≡ p i → b ≡ true → all p (from_to (i + 1) (n - (i + 1))) ≡ all p (from_to i (n - i))
-  range_more h q t = let e : i + 1 ≡ suc i = omega arith in ap (λ (m : ℕ). all p (from_to m (n - (i + 1)))) e ∙ rw (rest h, ← q, t)
-
-  pub range_here : {b : Bool} → i < n → b ≡ p i → b ≡ false → false ≡ all p (from_to i (n - i))
-  range_here h q t = rw (rest h, ← q, t)
-
--- the test of one slot, by how often it is in each list
-pub once_counted : (s : Slots) (r f a b : List ℕ) (i : ℕ) → Tallied a r → Tallied b f → i < 128
-    → (same (get_or a i 0) (aliveness (at s i)) && same (get_or a i 0 + get_or b i 0) 1) ≡ once s r f i
-once_counted s r f a b i p q h = rw (p i h, q i h)
+-- the test of every slot, by how often it is in each list
+pub each_counted : (n : ℕ) (s : Slots) (r f a b : List ℕ) → length s ≡ 128 → length a ≡ 128 → length b ≡ 128 → n ≤ 128 → Tallied a r → Tallied b f
+    → all (λ x. once_by x.0 x.1.0 x.1.1) (take n (zip s (zip a b))) ≡ all (once s r f) (from_to 0 n)
+unfolding at
+each_counted n s r f a b h j k m p q =
+    side_by_side once_by (once s r f) n 0 s a b (omega arith) (omega arith) (omega arith)
+    (λ i l. let u : i < 128 = omega arith in let v : 0 + i ≡ i = omega arith in rw (v, p i u, q i u))
 
 -- ---- all link rules
 pub links_whole : (n : ℕ) (s : Slots) (head live : ℕ) {r f : List ℕ} {root each nodes chained : Bool} {c : ℕ}

@@ -2,14 +2,14 @@
 use Rattle.arithmetic.proofs.LoopLaws.{drop_taken}
 use Rattle.std.proofs.Common.{◌≡◌, ℕ, zero, suc, ◌+◌, ◌-◌, ◌<◌, ◌≤◌, Bool, true, false, cond, ltb, List, [], ◌∷◌, ◌++◌, length, get_or, take, drop, sym, refl, ap, ◌∙◌, append_assoc, append-nil, sub-one, arith, drop_of_length-le, take_all, drop-cons, take-suc, take-take, lt-ltb}
 use lib.Seq.{take-append-le, drop-append-le}
-use Rattle.arena.specs.declared.links.Order.{Order}
+use Rattle.arena.specs.declared.listed.Listed.{Listed}
 use Rattle.arena.specs.Slots.{Slots, at, chain, kids_at, order}
 use Rattle.arena.specs.Support.Lists.{listed, none_listed, added, added_all}
 use Rattle.arena.proofs.Checks.ListLaws.{Bounded, none_bounded, added_bounded, listed_all, listed_length, listed_first, listed_from_none}
 
 -- ---- a chain listed
 module _ (s : Slots) where
-  pub chain_more : (n : ℕ) (o : Order) (c : ℕ) → 0 < n → c < 128 → added_all (added o c) (chain (n - 1) s (at s c).next_sibling) ≡ added_all o (chain n s c)
+  pub chain_more : (n : ℕ) (o : Listed 128) (c : ℕ) → 0 < n → c < 128 → added_all (added o c) (chain (n - 1) s (at s c).next_sibling) ≡ added_all o (chain n s c)
   unfolding chain added_all
   chain_more zero o c h q = absurd (omega arith)
   chain_more (suc n) o c h q = rw (sub-one, lt-ltb _ _ q)
@@ -24,8 +24,8 @@ module _ (s : Slots) where
       go false l h = omega arith
 
   -- a chain has room
-  pub chain_listed : (c : ℕ) → listed (added_all none_listed (chain 128 s c)) ≡ chain 128 s c
-  chain_listed c = listed_from_none (chain 128 s c) ∙ take_all 128 (chain 128 s c) (chain_short 128 c)
+  pub chain_listed : (c : ℕ) → listed (added_all {n = 128} none_listed (chain 128 s c)) ≡ chain 128 s c
+  chain_listed c = listed_from_none 128 (chain 128 s c) ∙ take_all 128 (chain 128 s c) (chain_short 128 c)
 
 -- ---- parts of a list that is cut
 take_cut : (k : ℕ) (q m : List ℕ) → take k (take k q ++ m) ≡ take k (q ++ m)
@@ -63,10 +63,10 @@ module _ (s : Slots) where
       ∙ ap (λ (m : List ℕ). take p l ++ order (suc n) s m) (sym (drop-cons l p 0 h))
 
   -- what was passed, and what the queue still gives
-  unfoldable pub reached : ℕ → Order → List ℕ
+  unfoldable pub reached : ℕ → Listed 128 → List ℕ
   reached p o = take p (listed o) ++ order (128 - p) s (drop p (listed o))
 
-  pub reached_more : (p : ℕ) (o : Order) {x : ℕ} {t : Order} → Bounded o → p < o.count → x ≡ get_or (listed o) p 0 → t ≡ added_all o (kids_at s x)
+  pub reached_more : (p : ℕ) (o : Listed 128) {x : ℕ} {t : Listed 128} → Bounded o → p < o.count → x ≡ get_or (listed o) p 0 → t ≡ added_all o (kids_at s x)
       → reached (p + 1) t ≡ reached p o
   unfolding reached
   reached_more p o k h e q =
@@ -76,7 +76,7 @@ module _ (s : Slots) where
       let d : 128 - (p + 1) ≡ 127 - p = omega arith in
       rw (q, e, listed_all o (kids_at s (get_or (listed o) p 0)) k, d, b, a) (turn (listed o) p (127 - p) (omega arith) (omega arith))
 
-  pub reached_done : (p : ℕ) (o : Order) → Bounded o → o.count ≤ p → listed o ≡ reached p o
+  pub reached_done : (p : ℕ) (o : Listed 128) → Bounded o → o.count ≤ p → listed o ≡ reached p o
   unfolding reached order
   reached_done p o k h =
       let n = listed_length o k in
@@ -89,6 +89,6 @@ module _ (s : Slots) where
       none zero = refl
       none (suc j) = refl
 
-  pub reached_start : (i : ℕ) {o t : Order} → o ≡ none_listed → t ≡ added o i → Bounded t × (reached 0 t ≡ order 128 s (i ∷ []))
+  pub reached_start : (i : ℕ) {o t : Listed 128} → o ≡ none_listed → t ≡ added o i → Bounded t × (reached 0 t ≡ order 128 s (i ∷ []))
   unfolding reached
-  reached_start i e q = rw (q, e) (added_bounded none_listed i none_bounded, ap (λ (m : List ℕ). order 128 s m) (listed_first i))
+  reached_start i e q = rw (q, e) (added_bounded {n = 128} none_listed i none_bounded, ap (λ (m : List ℕ). order 128 s m) (listed_first {n = 128} i (omega arith)))

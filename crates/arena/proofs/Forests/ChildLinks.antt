@@ -1,9 +1,8 @@
 -- A live node's links to its children are those of the forest: the first, the last, all in order, and each one's next. So what the slots
 -- answer of children is what the forest says. Assumes nothing.
+use Rattle.std.specs.Prelude.{None, Option, Some}
 use Rattle.std.proofs.Common.{◌≡◌, ℕ, true, cond, List, map, refl, ap, arith}
 use Rattle.field.specs.declared.NodeId.{NodeId}
-use Rattle.field.specs.declared.MaybeId.{MaybeId}
-use Rattle.field.specs.declared.MaybeId.TheVariants.{Absent, Present}
 use Rattle.arithmetic.specs.Tests.{same}
 use Rattle.arena.specs.Forest.{Forest, nil, node, or_id, app, has_id, kids_of, ids, first_id, next_id}
 use Rattle.arena.specs.Slots.{NIL, Slots, at, id_at, kids_at}
@@ -16,12 +15,12 @@ use Rattle.arena.proofs.Forests.Orders.{tops, children_of_a_node}
 use Rattle.arena.proofs.Forests.Ids.{id_by_index, live_id, kids_of_a_live_id}
 
 -- the id at a link
-abbrev pub link_id : Slots → ℕ → MaybeId
-link_id s c = cond (same c NIL) Absent (Present (id_at s c))
+abbrev pub link_id : Slots → ℕ → Option NodeId
+link_id s c = cond (same c NIL) None (Some (id_at s c))
 
-or_absent : (o : MaybeId) → or_id o Absent ≡ o
-or_absent Absent = refl
-or_absent (Present d) = refl
+or_absent : (o : Option NodeId) → or_id o None ≡ o
+or_absent None = refl
+or_absent (Some d) = refl
 
 module _ {X : Type 0} where
   ids_tops : (a : Slots) (f : Forest X) (par pv nx : ℕ) → SegR a par pv f nx → map (id_at a) (tops f) ≡ ids f
@@ -36,7 +35,7 @@ module _ {X : Type 0} where
       let e : (at a i).generation ≡ g = ap (λ (s : Slot). s.generation) r.0 in
       rw (same_no i NIL (ne_by (node i g x cs sib) i NIL (omega arith) z), e)
 
-  next_none : (a : Slots) (d : NodeId) (f : Forest X) (par pv nx : ℕ) → SegR a par pv f nx → (at a d.index).generation ≡ d.generation → cnt d.index f ≡ 0 → next_id d f ≡ Absent
+  next_none : (a : Slots) (d : NodeId) (f : Forest X) (par pv nx : ℕ) → SegR a par pv f nx → (at a d.index).generation ≡ d.generation → cnt d.index f ≡ 0 → next_id d f ≡ None
   next_none a d nil par pv nx r e z = refl
   next_none a d (node i g x cs sib) par pv nx r e z =
       eq_cases i d.index (λ q s y. absurd (omega arith)) λ q s y.

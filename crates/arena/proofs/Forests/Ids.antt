@@ -1,9 +1,10 @@
 -- The slots tell each live node's generation, so to find a node by its id is to find it by its index, and an id is live just where a
 -- node of the forest has it. Assumes nothing.
+use Rattle.std.specs.Prelude.{None, Some}
 use Rattle.std.proofs.Common.{◌≡◌, ℕ, ◌<◌, ◌≤◌, Bool, true, false, cond, ◌&&◌, ◌||◌, ltb, ◌≢◌, List, [], ◌∷◌, sym, refl, ap, ◌∙◌, subst, arith, le-ltb, lt-ltb}
 use native.Mathlib.Decide.{dec_lt}
 use Rattle.field.specs.declared.NodeId.{NodeId}
-use Rattle.arithmetic.specs.Tests.{same, occ, nothing, just}
+use Rattle.arithmetic.specs.Tests.{same, occ}
 use Rattle.arena.specs.Forest.{Forest, nil, node, has_both, has_id, kids_of, set_kids_of, cut_of, find, size}
 use Rattle.arena.specs.Slots.{NIL, Slots, at, used, is_live, id_at}
 use Rattle.arena.specs.declared.Slot.{Slot}
@@ -88,10 +89,10 @@ module _ {X : Type 0} where
 
   pub record Known (P : ℕ → ℕ → X → Type 0) (d : NodeId) (f : Forest X) : Type 0 where
     pub load : X
-    pub found : find d f ≡ just load
+    pub found : find d f ≡ Some load
     pub holds : P d.index d.generation load
 
-  pub find_nothing : (d : NodeId) (f : Forest X) → has_id d f ≡ false → find d f ≡ nothing
+  pub find_nothing : (d : NodeId) (f : Forest X) → has_id d f ≡ false → find d f ≡ None
   find_nothing d nil h = refl
   find_nothing d (node i g x cs sib) h =
       bool_cases (has_both d i g)

@@ -1,28 +1,29 @@
--- A list of slots kept in an array of 128 with a count.
+-- A list of slots kept in an array with a count.
 use Rattle.arena.specs.declared.Slot.{Slot}
 use Rattle.arena.specs.Slots.{Slots, at, joined}
-use Rattle.std.specs.Prelude.{◌≡◌, ℕ, zero, suc, ◌+◌, ◌<◌, cond, List, [], ◌∷◌, take, replicate, nat_lt, slice_index, slice_set}
-use Rattle.arithmetic.specs.Tests.{occ}
-use Rattle.arena.specs.declared.links.Order.{Order}
+use Rattle.std.specs.Prelude.{◌≡◌, ℕ, zero, suc, ◌+◌, ◌<◌, Bool, cond, ◌&&◌, List, [], ◌∷◌, take, replicate, nat_lt, slice_index, slice_set}
+use Rattle.arithmetic.specs.Tests.{same, occ}
+use Rattle.arena.specs.Rules.{aliveness}
+use Rattle.arena.specs.declared.listed.Listed.{Listed}
 
 -- An array and a count.
-abbrev pub order_of : List ℕ → ℕ → Order
-order_of l n = record { items = l; count = n }
+abbrev pub list_of : {n : ℕ} → List ℕ → ℕ → Listed n
+list_of l k = record { items = l; count = k }
 
 -- The slots listed.
-unfoldable pub listed : Order → List ℕ
+unfoldable pub listed : {n : ℕ} → Listed n → List ℕ
 listed o = take o.count o.items
 
 -- None.
-unfoldable pub none_listed : Order
-none_listed = record { items = replicate 128 0; count = 0 }
+unfoldable pub none_listed : {n : ℕ} → Listed n
+none_listed {n} = record { items = replicate n 0; count = 0 }
 
 -- One more after them, where there is room.
-unfoldable pub added : Order → ℕ → Order
-added o i = cond (nat_lt o.count 128) (record { items = slice_set o.items o.count i; count = o.count + 1 }) o
+unfoldable pub added : {n : ℕ} → Listed n → ℕ → Listed n
+added {n} o i = cond (nat_lt o.count n) (record { items = slice_set o.items o.count i; count = o.count + 1 }) o
 
 -- More after them, as far as there is room.
-unfoldable pub added_all : Order → List ℕ → Order
+unfoldable pub added_all : {n : ℕ} → Listed n → List ℕ → Listed n
 added_all o [] = o
 added_all o (i ∷ is) = added_all (added o i) is
 
@@ -34,9 +35,9 @@ Small l = (i : ℕ) → slice_index l i < 128
 abbrev pub Tallied : List ℕ → List ℕ → Type 0
 Tallied times l = (j : ℕ) → j < 128 → slice_index times j ≡ occ j l
 
--- The list has one link of each slot.
-abbrev pub LinksOf : Slots → (Slot → ℕ) → List ℕ → Type 0
-LinksOf s f l = (i : ℕ) → slice_index l i ≡ f (at s i)
+-- The test of one slot by how often it is reached and how often it is free: once in all, and reached just where it is live.
+abbrev pub once_by : Slot → ℕ → ℕ → Bool
+once_by s reached free = same reached (aliveness s) && same (reached + free) 1
 
 -- The slots from c on by previous links: at most k, up to an index that is no slot.
 unfoldable pub chain_back : ℕ → Slots → ℕ → List ℕ

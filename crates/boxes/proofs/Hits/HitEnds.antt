@@ -1,5 +1,6 @@
 -- A hit test ends at a node that holds the pixel and none of whose children does: each step goes down in a forest of at most 128 nodes, so
 -- that 128 steps are enough. Assumes nothing.
+use Rattle.std.specs.Prelude.{None, Some}
 use mathlib.Core.Path.{◌≡◌, refl, sym, ap, ◌∙◌, subst}
 use mathlib.Core.Logic.{◌⊎◌, inl, inr}
 use mathlib.Core.Bool.{Bool, true, false, cond}
@@ -8,7 +9,6 @@ use Prim.Native.Nat.{ℕ, zero, suc, ◌≤◌, ◌<◌}
 use native.Mathlib.Omega.{arith}
 use Rattle.arithmetic.specs.Tests.{occ}
 use Rattle.field.specs.declared.NodeId.{NodeId}
-use Rattle.field.specs.declared.MaybeId.TheVariants.{Absent, Present}
 use Rattle.arena.specs.Slots.{NIL, Slots, at, kids_at, id_at}
 use Rattle.boxes.specs.Hit.{last_of, descend, holds_at, hit_at}
 use Rattle.arena.specs.Forest.{Forest, nil, node, size}
@@ -113,15 +113,15 @@ module _ {X : Type 0} {n : ℕ} {s : Slots} {free : ℕ} {t : Forest X} {fl : Li
       ends_below s p 128 0 R.below (ap (λ (x : Slot). x.first_child) q.0) q.1 (λ j c. z j (omega arith)) (omega arith) (omega arith)
 
   -- the node hit holds the pixel, and none of its children does
-  pub a_hit_test_goes_all_the_way_down : (l : List LayoutSlot) (pixel : Pixel) (d : NodeId) → hit_at s l pixel ≡ Present d
+  pub a_hit_test_goes_all_the_way_down : (l : List LayoutSlot) (pixel : Pixel) (d : NodeId) → hit_at s l pixel ≡ Some d
       → (holds_at l pixel d.index ≡ true) × ((c : ℕ) → 0 < occ c (kids_at s d.index) → holds_at l pixel c ≡ false)
   unfolding hit_at
   a_hit_test_goes_all_the_way_down l pixel d e =
       let p : ℕ → Bool = holds_at l pixel in
       bool_cases (p 0)
       (λ b.
-      let w : Present (id_at s (descend p 128 s 0)) ≡ Present d = rw b at e in
+      let w : Some (id_at s (descend p 128 s 0)) ≡ Some d = rw b at e in
       let v : id_at s (descend p 128 s 0) ≡ d = cc in
       let i : descend p 128 s 0 ≡ d.index = ap (λ (x : NodeId). x.index) v in
       (ap p (sym i) ∙ descent_passes p 128 s 0 b, subst (Ends s p) i (descent_ends p)))
-      (λ b. let w : Absent ≡ Present d = rw b at e in let z : ◌≡◌ {A = ℕ} 0 1 = cc in absurd (omega arith))
+      (λ b. let w : None ≡ Some d = rw b at e in let z : ◌≡◌ {A = ℕ} 0 1 = cc in absurd (omega arith))

@@ -1,5 +1,6 @@
 -- The hit test over the slots names the node that the forest's recursion names. On both sides each child whose box holds the pixel takes
 -- the place of those before it; the slots' descent goes to the last one at once, and stays where there is none. Assumes nothing.
+use Rattle.std.specs.Prelude.{None, Option, Some}
 use Rattle.boxes.proofs.Hits.HitSteps.{descend_stays}
 use mathlib.Core.Path.{◌≡◌, refl, sym, ap, ◌∙◌, subst}
 use mathlib.Core.Logic.{◌⊎◌, inl, inr}
@@ -8,9 +9,6 @@ use mathlib.Core.List.{List}
 use Prim.Native.Nat.{ℕ, zero, suc, ◌≤◌, ◌<◌}
 use native.Mathlib.Omega.{arith}
 use Rattle.field.specs.declared.NodeId.{NodeId}
-use Rattle.field.specs.declared.MaybeId.{MaybeId}
-use Rattle.field.specs.declared.MaybeId.TheVariants.{Absent, Present}
-use Rattle.arithmetic.specs.Tests.{Maybe, nothing, just}
 use Rattle.arena.specs.Slots.{NIL, Slots, at, id_at, kids_at}
 use Rattle.boxes.specs.Styles.{layout_at}
 use Rattle.boxes.specs.Layout.{holds}
@@ -21,8 +19,6 @@ use Rattle.boxes.specs.Nodes.{Info, hit_f}
 use Rattle.arena.specs.declared.Slot.{Slot}
 use Rattle.boxes.specs.declared.LayoutSlot.{LayoutSlot}
 use Rattle.boxes.specs.declared.Pixel.{Pixel}
-use Rattle.boxes.specs.declared.Pointer.{Pointer}
-use Rattle.boxes.specs.declared.Pointer.TheVariants.{Nowhere, Placed}
 use Rattle.arithmetic.proofs.TestLaws.{δ-refl, bool_cases}
 use Rattle.arena.proofs.Forests.ForestLaws.{first_or, cnt}
 use Rattle.arena.proofs.Forests.Segments.{SegR}
@@ -39,9 +35,9 @@ pub record NodeNamed (t : Forest Info) (d : NodeId) (m : ℕ) : Type 1 where
   pub named : load.name ≡ m
 
 -- an id and a name mean the same node, or both mean none
-pub data Names (t : Forest Info) : MaybeId → Maybe ℕ → Type 1 where
-  neither : Names t Absent nothing
-  one_node : {d : NodeId} {m : ℕ} → NodeNamed t d m → Names t (Present d) (just m)
+pub data Names (t : Forest Info) : Option NodeId → Option ℕ → Type 1 where
+  neither : Names t None None
+  one_node : {d : NodeId} {m : ℕ} → NodeNamed t d m → Names t (Some d) (Some m)
 
 -- ---- the descent by index
 
@@ -66,11 +62,11 @@ hit_best h d i cs (node k g x ks sib) e = hit_best h (cond (h x) (hit h k ks) d)
     go true = refl
     go false = e
 
-record None (h : Info → Bool) (f : Forest Info) : Type 0 where
+record NoneHolds (h : Info → Bool) (f : Forest Info) : Type 0 where
   no_best : (d : ℕ) → best h d f ≡ d
   no_under : (u : Forest Info) → under h u f ≡ u
 
-record Some (a : Slots) (P : ℕ → ℕ → Info → Type 0) (h : Info → Bool) (f : Forest Info) : Type 0 where
+record LastHolds (a : Slots) (P : ℕ → ℕ → Info → Type 0) (h : Info → Bool) (f : Forest Info) : Type 0 where
   who : ℕ
   what : Forest Info
   is_best : (d : ℕ) → best h d f ≡ who
@@ -81,11 +77,11 @@ record Some (a : Slots) (P : ℕ → ℕ → Info → Type 0) (h : Info → Bool
   less : size what < size f
   counts : (j : ℕ) → cnt j what ≤ cnt j f
 
-best_cases : (a : Slots) (P : ℕ → ℕ → Info → Type 0) (h : Info → Bool) (f : Forest Info) (par pv nx : ℕ) → SegR a par pv f nx → AllF P f → None h f ⊎ Some a P h f
+best_cases : (a : Slots) (P : ℕ → ℕ → Info → Type 0) (h : Info → Bool) (f : Forest Info) (par pv nx : ℕ) → SegR a par pv f nx → AllF P f → NoneHolds h f ⊎ LastHolds a P h f
 best_cases a P h nil par pv nx r p = inl (record { no_best = λ d. refl; no_under = λ u. refl })
 best_cases a P h (node i g x cs sib) par pv nx r p = go (best_cases a P h sib par i nx r.2 p.2) (h x) refl
   where
-    go : None h sib ⊎ Some a P h sib → (b : Bool) → h x ≡ b → None h (node i g x cs sib) ⊎ Some a P h (node i g x cs sib)
+    go : NoneHolds h sib ⊎ LastHolds a P h sib → (b : Bool) → h x ≡ b → NoneHolds h (node i g x cs sib) ⊎ LastHolds a P h (node i g x cs sib)
     go (inr s) b e =
         let l = s.less in
         inr (record {
@@ -138,7 +134,7 @@ descend_hit (suc k) s p h i cs e r al b hn hk =
 
 record Both (t : Forest Info) (a : Slots) (pixel : Pixel) (i m : ℕ) (f : Forest Info) : Type 1 where
   name : ℕ
-  same_name : hit_f pixel (just m) f ≡ just name
+  same_name : hit_f pixel (Some m) f ≡ Some name
   node_is : NodeNamed t (id_at a (hit (λ x. holds pixel.x pixel.y x.rect) i f)) name
 
 both_hit : (t : Forest Info) (a : Slots) (pixel : Pixel) (i m : ℕ) (f : Forest Info) (par pv nx : ℕ) → SegR a par pv f nx
@@ -160,19 +156,19 @@ both_hit t a pixel i m (node k g x cs sib) par pv nx r c al n =
     let J = both_hit t a pixel (hit h k cs) I.name sib par k nx r.2 (λ j. let v = c j in omega arith) (λ P q. (al P q).2) I.node_is in
     record {
       name = J.name;
-      same_name = ap (λ (z : Bool). hit_f pixel (cond z (hit_f pixel (just x.name) cs) (just m)) sib) b ∙ ap (λ (z : Maybe ℕ). hit_f pixel z sib) I.same_name ∙ J.same_name;
+      same_name = ap (λ (z : Bool). hit_f pixel (cond z (hit_f pixel (Some x.name) cs) (Some m)) sib) b ∙ ap (λ (z : Option ℕ). hit_f pixel z sib) I.same_name ∙ J.same_name;
       node_is = subst (λ (z : Bool). NodeNamed t (id_at a (hit h (cond z (hit h k cs) i) sib)) J.name) (sym b) J.node_is;
     })
     (λ b.
     let J = both_hit t a pixel i m sib par k nx r.2 (λ j. let v = c j in omega arith) (λ P q. (al P q).2) n in
     record {
       name = J.name;
-      same_name = ap (λ (z : Bool). hit_f pixel (cond z (hit_f pixel (just x.name) cs) (just m)) sib) b ∙ J.same_name;
+      same_name = ap (λ (z : Bool). hit_f pixel (cond z (hit_f pixel (Some x.name) cs) (Some m)) sib) b ∙ J.same_name;
       node_is = subst (λ (z : Bool). NodeNamed t (id_at a (hit h (cond z (hit h k cs) i) sib)) J.name) (sym b) J.node_is;
     })
 
 from_the_root : (a : Slots) (l : List LayoutSlot) (pixel : Pixel) (g : ℕ) (x : Info) (cs : Forest Info) → SegR a NIL NIL (node 0 g x cs nil) NIL → Boxed l (node 0 g x cs nil)
-    → InRange (node 0 g x cs nil) → size cs ≤ 128 → Names (node 0 g x cs nil) (hit_at a l pixel) (hit_f pixel nothing (node 0 g x cs nil))
+    → InRange (node 0 g x cs nil) → size cs ≤ 128 → Names (node 0 g x cs nil) (hit_at a l pixel) (hit_f pixel None (node 0 g x cs nil))
 unfolding hit_at holds_at
 from_the_root a l pixel g x cs r bx b hn =
     let t : Forest Info = node 0 g x cs nil in
@@ -186,44 +182,44 @@ from_the_root a l pixel g x cs r bx b hn =
     let B = both_hit t a pixel 0 x.name cs 0 NIL NIL r.1 (λ j. omega arith) (λ P q. q.1)
     (record { load = x; there = omega arith; known = λ P q. subst (λ (y : ℕ). P 0 y x) (sym e) q.0; named = refl }) in
     bool_cases (h x)
-    (λ c. subst (λ (z : Bool). Names t (cond z (Present (id_at a (descend p 128 a 0))) Absent) (hit_f pixel nothing t)) (sym (p0 ∙ c))
-    (subst (λ (z : Bool). Names t (Present (id_at a (descend p 128 a 0))) (cond z (hit_f pixel (just x.name) cs) nothing)) (sym c)
-    (subst (λ (z : ℕ). Names t (Present (id_at a z)) (hit_f pixel (just x.name) cs)) (sym D)
-    (subst (λ (z : Maybe ℕ). Names t (Present (id_at a (hit h 0 cs))) z) (sym B.same_name) (one_node B.node_is)))))
-    (λ c. subst (λ (z : Bool). Names t (cond z (Present (id_at a (descend p 128 a 0))) Absent) (hit_f pixel nothing t)) (sym (p0 ∙ c))
-    (subst (λ (z : Bool). Names t Absent (cond z (hit_f pixel (just x.name) cs) nothing)) (sym c) neither))
+    (λ c. subst (λ (z : Bool). Names t (cond z (Some (id_at a (descend p 128 a 0))) None) (hit_f pixel None t)) (sym (p0 ∙ c))
+    (subst (λ (z : Bool). Names t (Some (id_at a (descend p 128 a 0))) (cond z (hit_f pixel (Some x.name) cs) None)) (sym c)
+    (subst (λ (z : ℕ). Names t (Some (id_at a z)) (hit_f pixel (Some x.name) cs)) (sym D)
+    (subst (λ (z : Option ℕ). Names t (Some (id_at a (hit h 0 cs))) z) (sym B.same_name) (one_node B.node_is)))))
+    (λ c. subst (λ (z : Bool). Names t (cond z (Some (id_at a (descend p 128 a 0))) None) (hit_f pixel None t)) (sym (p0 ∙ c))
+    (subst (λ (z : Bool). Names t None (cond z (hit_f pixel (Some x.name) cs) None)) (sym c) neither))
 
 the_hit_test_names_the_forests_node : {n : ℕ} {free : ℕ} {t : Forest Info} {fl : List ℕ} (a : Slots) (l : List LayoutSlot) (pixel : Pixel)
-    → Rel n a free t fl → Boxed l t → Names t (hit_at a l pixel) (hit_f pixel nothing t)
+    → Rel n a free t fl → Boxed l t → Names t (hit_at a l pixel) (hit_f pixel None t)
 the_hit_test_names_the_forests_node {t = t} a l pixel r bx =
     let R = one_root t r.root in
     let w = R.whole in
     let sz : size t ≡ size (node 0 R.gen R.load R.below nil) = ap size w in
     let hn = rel_size r in
-    subst (λ (z : Forest Info). Names z (hit_at a l pixel) (hit_f pixel nothing z)) (sym w)
+    subst (λ (z : Forest Info). Names z (hit_at a l pixel) (hit_f pixel None z)) (sym w)
     (from_the_root a l pixel R.gen R.load R.below
     (subst (λ (z : Forest Info). SegR a NIL NIL z NIL) w r.links)
     (subst (λ (z : Forest Info). Boxed l z) w bx)
     (subst (λ (z : Forest Info). InRange z) w (rel_in_range r)) (omega arith))
 
 -- so it is under the pointer, and where the pointer is nowhere neither names a node
-pub the_pointer_names_the_forests_node : {n : ℕ} {free : ℕ} {t : Forest Info} {fl : List ℕ} (a : Slots) (l : List LayoutSlot) (pointer : Pointer)
-    → Rel n a free t fl → Boxed l t → Names t (under_pointer Absent (hit_at a l) pointer) (under_pointer nothing (λ pixel. hit_f pixel nothing t) pointer)
-the_pointer_names_the_forests_node a l Nowhere r bx = neither
-the_pointer_names_the_forests_node a l (Placed pixel) r bx = the_hit_test_names_the_forests_node a l pixel r bx
+pub the_pointer_names_the_forests_node : {n : ℕ} {free : ℕ} {t : Forest Info} {fl : List ℕ} (a : Slots) (l : List LayoutSlot) (pointer : Option Pixel)
+    → Rel n a free t fl → Boxed l t → Names t (under_pointer None (hit_at a l) pointer) (under_pointer None (λ pixel. hit_f pixel None t) pointer)
+the_pointer_names_the_forests_node a l None r bx = neither
+the_pointer_names_the_forests_node a l (Some pixel) r bx = the_hit_test_names_the_forests_node a l pixel r bx
 
 -- ---- what it says either way
 
-pub no_name_no_id : {t : Forest Info} {o : MaybeId} {m : Maybe ℕ} → Names t o m → m ≡ nothing → o ≡ Absent
+pub no_name_no_id : {t : Forest Info} {o : Option NodeId} {m : Option ℕ} → Names t o m → m ≡ None → o ≡ None
 no_name_no_id neither e = refl
 no_name_no_id (one_node n) e = let z : ◌≡◌ {A = ℕ} 0 1 = cc in absurd (omega arith)
 
-pub record NodeHit (t : Forest Info) (o : MaybeId) (m : ℕ) : Type 1 where
+pub record NodeHit (t : Forest Info) (o : Option NodeId) (m : ℕ) : Type 1 where
   pub id : NodeId
-  pub is_the_id : o ≡ Present id
+  pub is_the_id : o ≡ Some id
   pub node_named : NodeNamed t id m
 
-pub a_name_has_its_node : {t : Forest Info} {o : MaybeId} {m : Maybe ℕ} → Names t o m → (k : ℕ) → m ≡ just k → NodeHit t o k
+pub a_name_has_its_node : {t : Forest Info} {o : Option NodeId} {m : Option ℕ} → Names t o m → (k : ℕ) → m ≡ Some k → NodeHit t o k
 a_name_has_its_node neither k e = let z : ◌≡◌ {A = ℕ} 0 1 = cc in absurd (omega arith)
 a_name_has_its_node (one_node {d} {m} n) k e =
     let q : m ≡ k = cc in

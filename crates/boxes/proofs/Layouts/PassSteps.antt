@@ -1,5 +1,4 @@
 -- A pass at one node: its children are walked one by one, and what is left of them gives the rest. Assumes nothing.
-use Rattle.arena.specs.Support.Lists.{Small}
 use mathlib.Core.Path.{◌≡◌, refl, sym, ap, ◌∙◌}
 use mathlib.Core.Bool.{Bool, true, false, ◌&&◌}
 use mathlib.Core.List.{List, [], ◌∷◌, map}
@@ -8,8 +7,8 @@ use native.Mathlib.Omega.{arith}
 use borrow.Author.Tests.{ltb-true, ltb-false}
 use lib.Dec.{ltb}
 use lib.IntN.{ℤ, pos}
-use lib.ListN.{length, length-map, get_or, set, take, drop}
-use lib.Seq.{get_or-take, sets, get_or-set_same, get_or-set_other, set_out}
+use lib.ListN.{length, length-map, get_or, set, drop}
+use lib.Seq.{sets, get_or-set_same, get_or-set_other, set_out}
 use native.Mathlib.Decide.{dec_lt}
 use Rattle.arena.specs.Slots.{Slots, at, chain, kids_at}
 use Rattle.boxes.specs.Styles.{layout_at}
@@ -45,10 +44,6 @@ one_more : (s : Slots) (child n : ℕ) → child < 128 → n < 128 → chain (12
 one_more s child n h k =
     let e : 128 - n - 1 ≡ 128 - (n + 1) = omega arith in
     chain_more s (128 - n) child (λ z. omega arith) h ∙ ap (λ (m : ℕ). child ∷ chain m s (at s child).next_sibling) e
-
--- What an order of slots has at a place is a slot.
-pub slot_of : (count : ℕ) (ids : List ℕ) (j : ℕ) → j < count → Small (take count ids) → get_or ids j 0 < 128
-slot_of count ids j h s = rw (get_or-take count ids j 0 h) at (s j)
 
 -- Of the children from `first` on n are passed and summed, and the walk stands at `child`.
 pub record Summing (s : Slots) (l : List LayoutSlot) (d : Direction) (first : ℕ) (sum : Lengths) (child n : ℕ) : Type 0 where

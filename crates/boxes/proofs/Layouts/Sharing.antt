@@ -2,7 +2,9 @@
 -- children is read, and where one grows the shares sum to the leftover. Assumes nothing.
 use Rattle.arithmetic.proofs.LoopLaws.{zero_read}
 use mathlib.Core.Path.{◌≡◌, refl, sym, ap, ◌∙◌, fun_ext}
-use mathlib.Core.Bool.{true, false, cond}
+use mathlib.Core.Bool.{Bool, true, false, ◌||◌, cond}
+use Rattle.std.specs.List.{list_any}
+use Rattle.std.proofs.lemmas.List.Folds.{list_any_more}
 use mathlib.Core.List.{List, [], ◌∷◌, ◌++◌, map}
 use Prim.Native.Nat.{ℕ, zero, suc, ◌+◌, ◌-◌, ◌*◌, ◌/◌, ◌%◌, ◌^◌, ◌≤◌, ◌<◌, min}
 use native.Mathlib.Omega.{arith}
@@ -14,8 +16,7 @@ use lib.Seq.{sets, sets-eq, get_or-drop}
 use Rattle.arithmetic.specs.Scalar.{stop, add_sat, sub_sat}
 use Rattle.arithmetic.specs.Growth.{sum_to, table, comes_before, rank, grow_sum, whole_share, remainder, missing, share_with_unit, share, plan_growth}
 use Rattle.arithmetic.proofs.GrowthPlans.{plan_of_no_leftover, plan_of_no_grow}
-use borrow.Author.Tests.{ltb-true, ltb-false, leb-false, lt-ltb, le-ltb}
-use Rattle.arithmetic.proofs.Sums.{sum_of_equals, summand_at_most_sum}
+use borrow.Author.Tests.{ltb-true, ltb-false, leb-false, lt-ltb}
 use Rattle.arithmetic.proofs.GrowthTheorems.{units_at, plan_length, shares_are_not_negative, shares_sum_to_leftover}
 use Rattle.boxes.specs.Layout.{Child, total, boxes, place, content, offset}
 use Rattle.boxes.specs.Support.Views.{no_shares, inner_of, box_at, past_of}
@@ -116,13 +117,18 @@ no_plan_of_no_grow l g count few h =
     sym none_are_no_shares ∙ plan_of_no_grow l g count (ap (grow_sum g) n ∙ z)
 
 -- Whether one of some grows is not 0.
-pub some_grows : (g : List ℕ) (count k : ℕ) → k < count → 0 < get_or g k 0 → true ≡ ltb 0 (grow_sum g count)
-unfolding grow_sum
-some_grows g count k h p = sym (lt-ltb 0 (grow_sum g count) (omega (arith, summand_at_most_sum (λ (j : ℕ). get_or g j 0) count k h)))
+either_is_more : (a b : ℕ) → (ltb 0 a || ltb 0 b) ≡ ltb 0 (a + b)
+either_is_more zero b = ap (ltb 0) (let e : b ≡ zero + b = omega arith in e)
+either_is_more (suc a) b = ap (λ (c : Bool). c || ltb 0 b) (lt-ltb 0 (suc a) (omega arith)) ∙ sym (lt-ltb 0 (suc a + b) (omega arith))
 
-pub none_grows : (g : List ℕ) (count : ℕ) → ((k : ℕ) → k < count → get_or g k 0 ≡ 0) → false ≡ ltb 0 (grow_sum g count)
-unfolding grow_sum
-none_grows g count h = sym (le-ltb 0 (grow_sum g count) (omega (arith, sum_of_equals (λ (j : ℕ). get_or g j 0) 0 count h)))
+pub some_grows : (g : List ℕ) (count : ℕ) → count ≤ length g → list_any (ltb 0) (take count g) ≡ ltb 0 (grow_sum g count)
+unfolding grow_sum sum_to
+some_grows g zero h = refl
+some_grows g (suc n) h =
+    ap (λ (k : ℕ). list_any (ltb 0) (take k g)) (let e : suc n ≡ n + 1 = omega arith in e)
+    ∙ list_any_more (ltb 0) g n 0 (omega arith)
+    ∙ ap (λ (b : Bool). b || ltb 0 (get_or g n 0)) (some_grows g n (omega arith))
+    ∙ either_is_more (grow_sum g n) (get_or g n 0)
 
 -- ---- a node's children placed
 

@@ -1,8 +1,8 @@
 -- What wearing and baring do past the slots, and slot after slot. Assumes nothing.
-use mathlib.Core.Path.{◌≡◌, refl, sym, ◌∙◌}
+use mathlib.Core.Path.{◌≡◌, refl, ◌∙◌}
 use mathlib.Core.Bool.{Bool, true, false, ◌||◌, cond}
-use mathlib.Core.List.{List, [], ◌∷◌, ◌++◌, append-nil}
-use Prim.Native.Nat.{ℕ, ◌+◌, ◌≤◌}
+use mathlib.Core.List.{List, [], ◌∷◌, ◌++◌}
+use Prim.Native.Nat.{ℕ, ◌≤◌}
 use lib.ListN.{length, set, length-set, get_or-eq_default}
 use lib.Seq.{set_out}
 use Rattle.arithmetic.specs.Tests.{same}
@@ -68,7 +68,3 @@ all_lengths p bits k (i ∷ is) =
     let a = all_lengths p bits (wear p k i (bits i)) is in
     let b = wear_lengths p k i (bits i) in
     (a.0 ∙ b.0, a.1 ∙ b.1)
-
--- nothing more in turn
-pub no_more : (l : List ℕ) → l ≡ l ++ []
-no_more l = sym (append-nil l)

@@ -10,7 +10,6 @@ use Rattle.boxes.specs.declared.Rect.{Rect}
 use Rattle.boxes.specs.declared.Edges.{Edges}
 use Rattle.boxes.specs.declared.LayoutSlot.{LayoutSlot}
 use Rattle.boxes.specs.declared.layout.Lengths.{Lengths}
-use Rattle.boxes.specs.declared.layout.Extent as code
 
 -- What a parent sees of a layout slot.
 abbrev pub child_of : LayoutSlot → Child
@@ -19,8 +18,8 @@ child_of x = record { style = x.style; wants = record { width = x.wanted_width; 
 abbrev pub axes_of : Lengths → Axes
 axes_of a = record { main = a.main; cross = a.cross }
 
-abbrev pub extent_of : code.Extent → Extent
-extent_of e = record { width = e.width; height = e.height }
+abbrev pub extent_of : ℤ × ℤ → Extent
+extent_of e = record { width = e.0; height = e.1 }
 
 abbrev pub no_axes : Axes
 no_axes = record { main = pos 0; cross = pos 0 }
@@ -53,6 +52,9 @@ pub record SharedOut (leftover : ℤ) (grows : List ℕ) (n : ℕ) (shares : Lis
   pub shared : shares ≡ plan_growth leftover grows n
   pub rest : free ≡ sub_sat leftover (total (take n (plan_growth leftover grows n)))
 
--- A node's box less its padding, along its axes.
+-- A node's box less its padding; and its lengths along the node's axes.
+abbrev pub content_of : Edges → Rect → Rect
+content_of p r = record { x = add_sat r.x p.left; y = add_sat r.y p.top; width = sub_sat (sub_sat r.width p.left) p.right; height = sub_sat (sub_sat r.height p.top) p.bottom }
+
 unfoldable pub inner_of : Direction → Edges → Rect → Axes
 inner_of d p r = axes d (sub_sat (sub_sat r.width p.left) p.right) (sub_sat (sub_sat r.height p.top) p.bottom)

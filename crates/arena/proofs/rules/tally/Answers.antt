@@ -1,28 +1,29 @@
-use Rattle.std.proofs.Common.{◌≡◌, ◌%◌, ◌<◌, length, get_or, refl, ◌∙◌, arith, length-set, rules}
-use Rattle.arena.proofs.Checks.WalkLaws.{counted_few, tallied_more, tallied_none}
+use Rattle.std.proofs.Common.{◌≡◌, ℕ, ◌+◌, ◌≤◌, [], ◌∷◌, ◌++◌, length, take, get_or, refl, ap, ◌∙◌, arith, add-one, take-suc, length-set, length-take, rules}
+use Rattle.arena.proofs.Checks.ListLaws.{listed_few}
+use Rattle.arena.proofs.Checks.WalkLaws.{occ_short, tallied_more, tallied_past, tallied_none}
 use Rattle.arena.proofs.rules.tally.Goals as goal
+use Rattle.arena.proofs.rules.tally.Goals.{then-k-lt128, else-k-lt128}
 
-pub loop-k-init : goal.loop-k-init
-loop-k-init c = (search rules, refl, tallied_none)
+pub loop-i-init : goal.loop-i-init
+loop-i-init c = (refl, tallied_none)
 
 pub overflow_add-times : goal.overflow_add-times
 overflow_add-times c =
-    let l = c.loop-k in
-    let p = c.requires in
-    let e : length c.args.items ≡ 128 = search rules in
-    let x : get_or c.args.items l.k 0 % 128 < 128 = omega arith in
-    let w = counted_few c.args.items l.times l.k (omega (arith, e, p.0, c.loop-k-test.true)) l.invariant.1 (p.1 l.k) l.invariant.2 (get_or c.args.items l.k 0 % 128) x in
-    search rules
+    let l = c.loop-i in
+    let s = c.as_slice-i-items.result.now in
+    let x = get_or s l.i-index 0 in
+    let w = l.invariant.1 x c.if-k-lt128.true in
+    let k : length s ≤ 128 = rw c.as_slice-i-items.ensures (listed_few c.args.o.now (search rules)) in
+    omega (arith, w, occ_short x (take l.i-index s), length-take l.i-index s)
 
-pub loop-k-preserved : goal.loop-k-preserved
-loop-k-preserved c =
-    let l = c.loop-k in
-    let p = c.requires in
-    let t = c.args.items in
-    let e : length c.args.items ≡ 128 = search rules in
-    let m : get_or t l.k 0 % 128 ≡ get_or t l.k 0 = omega (arith, p.1 l.k) in
-    rw m (
-      omega (arith, c.loop-k-test.true),
-      length-set l.times (get_or t l.k 0) _ ∙ l.invariant.1,
-      tallied_more t l.times l.k (omega (arith, e, p.0, c.loop-k-test.true)) l.invariant.1 (p.1 l.k) l.invariant.2,
-    )
+pub loop-i-preserved : goal.loop-i-preserved
+loop-i-preserved c =
+    let l = c.loop-i in
+    let s = c.as_slice-i-items.result.now in
+    let x = get_or s l.i-index 0 in
+    let e : take (l.i-index + 1) s ≡ take l.i-index s ++ (x ∷ []) = ap (λ (n : ℕ). take n s) (add-one l.i-index) ∙ take-suc s l.i-index 0 c.loop-i-test.true in
+    rw e
+    (elim c.if-k-lt128.branch [
+      | then-k-lt128 w ↦ rw w.times-is (length-set l.times x _ ∙ l.invariant.0, tallied_more l.times (take l.i-index s) x l.invariant.0 l.invariant.1)
+      | else-k-lt128 w ↦ rw w.times-is (l.invariant.0, tallied_past l.times (take l.i-index s) x w.if-k-lt128.false l.invariant.1)
+    ])

@@ -1,28 +1,21 @@
-use mathlib.Core.Path.{◌≡◌, sym, ◌∙◌, ap}
-use Prim.Native.Nat.{ℕ, ◌+◌}
+-- `grow_sum` sums the grows, each of which is at most 2^32 - 1. Assumes nothing.
+use mathlib.Core.Path.{◌≡◌, ◌∙◌}
+use Prim.Native.Nat.{ℕ}
 use native.Mathlib.Omega.{arith}
 use borrow.Author.Rules.{rules}
+use lib.ListN.{get_or, length}
 use mir.Syntax.{w32}
 use mir.Val.{Fits}
-use lib.ListN.{get_or}
+use Rattle.std.specs.Prelude.{sum}
 use Rattle.arithmetic.specs.Growth.{grow_sum}
-use Rattle.arithmetic.proofs.Sums.{sum_of_none, sum_of_one_more}
+use Rattle.arithmetic.proofs.Sums.{sum_of_places, bounded_summands_bounded_sum}
 use Rattle.arithmetic.proofs.growth.grow_sum.Goals as goal
-
-grow_fits : (c : goal.In-loop-i) → Fits w32 (get_or c.args.grows c.loop-i.i 0)
-grow_fits c = search rules
-
-pub loop-i-init : goal.loop-i-init
-loop-i-init c = (omega arith, omega arith, sym (sum_of_none _))
-
-pub overflow_add-sum : goal.overflow_add-sum
-overflow_add-sum c = omega (arith, grow_fits c)
-
-pub loop-i-preserved : goal.loop-i-preserved
-loop-i-preserved c = (omega arith, omega (arith, grow_fits c), ap (λ (x : ℕ). x + get_or c.args.grows c.loop-i.i 0) c.loop-i.invariant.2 ∙ sym (sum_of_one_more _ _))
 
 pub returns : goal.returns
 unfolding grow_sum
 returns c =
-    let e : c.loop-i.i ≡ c.args.n = omega arith in
-    (rw e at c.loop-i.invariant.2, omega arith)
+    let fits : (k : ℕ) → Fits w32 (get_or c.args.grows.now k 0) = λ k. search rules in
+    let e : c.sum.result ≡ sum c.args.grows.now = search rules in
+    let n : ℕ = length c.args.grows.now in
+    let r = e ∙ sum_of_places c.args.grows.now in
+    (r, omega (arith, r, c.requires, bounded_summands_bounded_sum (λ (k : ℕ). get_or c.args.grows.now k 0) 4294967295 n (λ k h. omega (arith, fits k))))

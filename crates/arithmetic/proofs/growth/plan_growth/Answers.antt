@@ -1,47 +1,40 @@
 -- `plan_growth` gives the planned shares: none where nothing is left over or nothing grows, otherwise the whole shares with the missing units given.
 -- Assumes nothing.
-use mathlib.Core.Path.{◌≡◌, sym, ◌∙◌, ap, subst}
+use mathlib.Core.Path.{◌≡◌, sym, ◌∙◌, ap, ap₂, subst}
 use mathlib.Core.Bool.{false}
-use Prim.Native.Nat.{ℕ, ◌<◌, ◌^◌, min}
+use Prim.Native.Nat.{ℕ, ◌-◌, ◌<◌, ◌^◌, min}
 use native.Mathlib.Omega.{arith}
-use lib.Dec.{T}
+use borrow.Author.Rules.{rules}
 use lib.IntN.{ℤ, pos, negsuc, nat_abs}
-use lib.Signed.{le_z, non_neg}
+use lib.ListN.{length, take}
+use lib.Seq.{length-take-le}
+use lib.Signed.{le_z}
 use mir.Syntax.{w64}
 use mir.Val.{SFits}
-use mir.Facts.{to_z-of_z, Fits-nat_abs}
+use mir.Facts.{to_z-of_z}
 use Rattle.arithmetic.specs.Growth.{table, grow_sum}
 use Rattle.arithmetic.specs.declared.growth.Parts.{Parts}
-use Rattle.arithmetic.specs.Support.Steps.{PartsOf}
-use Rattle.arithmetic.proofs.GrowthPlans.{plan_of_no_leftover, plan_of_no_grow, parts_have_room, plan_by_parts}
+use Rattle.arithmetic.specs.Support.Steps.{PartsOf, RoomForUnits, with_unit}
+use Rattle.arithmetic.proofs.GrowthPlans.{grow_sum_of_front, parts_of_front, plan_of_no_leftover, plan_of_no_grow, parts_have_room, plan_by_parts}
 use Rattle.arithmetic.proofs.growth.plan_growth.Goals as goal
-
-positive_is_nonNeg : (l : ℤ) → le_z l (pos 0) ≡ false → T (non_neg l)
-positive_is_nonNeg (pos n) h = tt
-positive_is_nonNeg (negsuc n) h = let z : ◌≡◌ {A = ℕ} 0 1 = cc in absurd (omega arith)
+use Rattle.arithmetic.proofs.growth.plan_growth.Goals.{After-grow_sum-t}
 
 positive_below_end : (l : ℤ) → le_z l (pos 0) ≡ false → SFits w64 l → nat_abs l < 2 ^ 63
 positive_below_end (pos n) h f = omega arith
 positive_below_end (negsuc n) h f = let z : ◌≡◌ {A = ℕ} 0 1 = cc in absurd (omega arith)
 
-module _ (c : goal.Else-t-eq0) where
+module _ (c : After-grow_sum-t) where
   abbrev n : ℕ
-  n = c.places-n.result
+  n = c.min.result
 
   n_is : n ≡ min c.args.count 128
-  n_is = c.places-n.ensures
+  n_is = search rules
 
-  left_over : le_z c.args.leftover (pos 0) ≡ false
-  left_over = simp (to_z-of_z c.ranges.leftover) at c.if-leftover-le0.false
+  front_is : length (take n c.args.grows) ≡ n
+  front_is = length-take-le n c.args.grows (search rules)
 
-  below_end : nat_abs c.args.leftover < 2 ^ 63
-  below_end = positive_below_end c.args.leftover left_over c.ranges.leftover
-
-  grow_sum_is_positive : 0 < c.grow_sum-t.result
-  grow_sum_is_positive = omega arith
-
-  some_grow : 0 < grow_sum c.args.grows n
-  some_grow = subst (λ (x : ℕ). 0 < x) c.grow_sum-t.ensures.0 grow_sum_is_positive
+  sum_is : c.grow_sum-t.result ≡ grow_sum c.args.grows n
+  sum_is = c.grow_sum-t.ensures.0 ∙ ap (grow_sum (take n c.args.grows)) front_is ∙ grow_sum_of_front 0 c.args.grows n
 
 pub returns-then-leftover-le0 : goal.returns-then-leftover-le0
 unfolding table
@@ -50,29 +43,46 @@ returns-then-leftover-le0 c = plan_of_no_leftover _ _ _ (simp (to_z-of_z c.range
 pub returns-then-t-eq0 : goal.returns-then-t-eq0
 unfolding table
 returns-then-t-eq0 c =
-    plan_of_no_grow _ _ _ (sym (ap (grow_sum c.args.grows) c.places-n.ensures) ∙ sym c.grow_sum-t.ensures.0 ∙ c.if-t-eq0.true)
-
-pub overflow_cast-l : goal.overflow_cast-l
-overflow_cast-l c = simp (to_z-of_z c.ranges.leftover) (positive_is_nonNeg c.args.leftover (left_over c), Fits-nat_abs tt c.ranges.leftover)
-
-pub whole_shares-p-requires : goal.whole_shares-p-requires
-whole_shares-p-requires c =
-    simp (to_z-of_z c.ranges.leftover)
-    (below_end c, omega (arith, n_is c), c.grow_sum-t.ensures.0, grow_sum_is_positive c, c.grow_sum-t.ensures.1)
+    plan_of_no_grow _ _ _ (sym (ap (grow_sum c.args.grows) (n_is c.before)) ∙ sym (sum_is c.before) ∙ c.if-t-eq0.true)
 
 module _ (c : goal.After-struct_known-1) where
-  abbrev shares_result : Parts
-  shares_result = c.whole_shares-p.result
+  abbrev before : After-grow_sum-t
+  before = c.before.before.before.before
 
-  parts : PartsOf (nat_abs c.args.leftover) c.args.grows (n c.before.before.before.before) shares_result.shares shares_result.keys shares_result.given
-  parts = simp (to_z-of_z c.ranges.leftover) at c.whole_shares-p.ensures
+  abbrev places : ℕ
+  places = n before
+
+  abbrev given : Parts
+  given = c.whole_shares-parts.result
+
+  left_over : le_z c.args.leftover (pos 0) ≡ false
+  left_over = simp (to_z-of_z c.ranges.leftover) at c.if-leftover-le0.false
+
+  some_grow : 0 < grow_sum c.args.grows places
+  some_grow = omega (arith, sum_is before)
+
+  leftover_is : c.unsigned_abs-l.result ≡ nat_abs c.args.leftover
+  leftover_is = c.unsigned_abs-l.ensures.value ∙ ap nat_abs (to_z-of_z c.ranges.leftover)
+
+  parts : PartsOf (nat_abs c.args.leftover) c.args.grows places given.shares given.keys given.given
+  parts =
+      let l : c.unsigned_abs-l.result ≡ nat_abs c.args.leftover = leftover_is in
+      let e = front_is before in
+      parts_of_front (nat_abs c.args.leftover) c.args.grows places (rw (l, e) at c.whole_shares-parts.ensures)
+
+  -- how many units are missing, and of how many places
+  missing_is : c.unsigned_abs-l.result - given.given ≡ nat_abs c.args.leftover - given.given
+  missing_is = ap (λ (x : ℕ). x - given.given) leftover_is
 
 pub give_units-requires : goal.give_units-requires
 give_units-requires c =
-    simp (to_z-of_z c.ranges.leftover)
-    (parts_have_room _ _ _ _ _ _ (some_grow c.before.before.before.before) (parts c) (below_end c.before.before.before.before) (omega (arith, n_is c.before.before.before.before)))
+    subst (λ (m : ℕ). RoomForUnits (given c).shares (given c).keys m (c.unsigned_abs-l.result - (given c).given)) (sym (front_is (before c)))
+    (subst (λ (m : ℕ). RoomForUnits (given c).shares (given c).keys (places c) m) (sym (missing_is c))
+    (parts_have_room _ _ _ _ _ _ (some_grow c) (parts c) (positive_below_end c.args.leftover (left_over c) c.ranges.leftover) (omega (arith, n_is (before c)))))
 
 pub returns : goal.returns
 returns c =
-    (simp (to_z-of_z c.ranges.leftover) at c.give_units.ensures)
-    ∙ plan_by_parts c.args.leftover _ _ _ _ _ _ (n_is c.before.before.before.before.before) (left_over c.before.before.before.before.before) (some_grow c.before.before.before.before.before) (parts c.before)
+    let b = c.before in
+    c.give_units.ensures
+    ∙ ap₂ (λ (m k : ℕ). table 128 (with_unit (given b).shares (given b).keys m k)) (front_is (before b)) (missing_is b)
+    ∙ plan_by_parts c.args.leftover _ _ _ _ _ _ (n_is (before b)) (left_over b) (some_grow b) (parts b)

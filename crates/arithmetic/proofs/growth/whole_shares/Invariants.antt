@@ -9,5 +9,5 @@ use Rattle.arithmetic.proofs.growth.whole_shares.Given as goal
 
 abbrev pub invariant-loop-i : goal.invariant-loop-i
 invariant-loop-i l =
-    (l.i ≤ l.n) × (length l.shares ≡ 128) × (length l.keys ≡ 128) × ((k : ℕ) → k < l.i → get_or l.shares k (pos 0) ≡ pos (whole_share l.l l.grows l.n k)) × ((k : ℕ) → l.i ≤ k → get_or l.shares k (pos 0) ≡ pos 0)
-    × ((k : ℕ) → k < l.i → get_or l.keys k 0 ≡ remainder l.l l.grows l.n k + 1) × (l.given ≡ sum_to (whole_share l.l l.grows l.n) l.i)
+    (length l.shares ≡ 128) × (length l.keys ≡ 128) × ((k : ℕ) → k < l.i → get_or l.shares k (pos 0) ≡ pos (whole_share l.l l.grows (length l.grows) k)) × ((k : ℕ) → l.i ≤ k → get_or l.shares k (pos 0) ≡ pos 0)
+    × ((k : ℕ) → k < l.i → get_or l.keys k 0 ≡ remainder l.l l.grows (length l.grows) k + 1) × (l.given ≡ sum_to (whole_share l.l l.grows (length l.grows)) l.i)

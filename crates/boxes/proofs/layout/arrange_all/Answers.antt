@@ -1,29 +1,29 @@
 use Rattle.boxes.proofs.Layouts.Placing.{no_grows}
-use lib.ListN.{length, take, drop, get_or}
+use lib.ListN.{drop, get_or}
 use native.Mathlib.Omega.{arith}
 use Prim.Native.Nat.{ℕ, ◌+◌}
 use mathlib.Core.List.{List, map}
-use mathlib.Core.Path.{◌≡◌, refl, ◌∙◌, ap}
+use mathlib.Core.Path.{◌≡◌, ap₂, refl, ◌∙◌, ap}
 use borrow.Author.Rules.{rules}
 use Rattle.boxes.proofs.Layouts.Passes.{arranged_none, arranged_more}
 use Rattle.boxes.proofs.Layouts.PassSteps.{goes_on, summing_done, gathering_more, gathering_done, boxing_more, boxing_done, arranged, arranged_leaf}
 use Rattle.boxes.proofs.Layouts.Sharing.{placed_by_parts}
 use Rattle.arithmetic.proofs.Signs.{back, said}
 use Rattle.boxes.specs.declared.LayoutSlot.{LayoutSlot}
-use Rattle.boxes.specs.Support.Views.{no_shares}
+use Rattle.boxes.specs.Support.Views.{no_shares, axes_of, inner_of}
 use Rattle.boxes.specs.Styles.{layout_at}
 use Rattle.arena.specs.Slots.{kids_at, at}
-use Rattle.boxes.specs.Layout.{arrange_all, offset, seen, Child}
+use Rattle.boxes.specs.Layout.{arrange_all, offset, seen, Child, Axes, axes, content}
+use Rattle.boxes.specs.declared.Rect.{Rect}
+use Rattle.arithmetic.specs.Scalar.{sub_sat}
 use Rattle.boxes.proofs.layout.arrange_all.Goals as goal
 
-pub loop-j-preserved-then-first-ge128 : goal.loop-j-preserved-then-first-ge128
+pub loop-id-preserved-then-first-ge128 : goal.loop-id-preserved-then-first-ge128
 unfolding at
-loop-j-preserved-then-first-ge128 c = let l = c.loop-j in let a = c.args in let e : length a.ids ≡ 128 = search rules in (
-  ap (λ (x : List LayoutSlot). arrange_all a.slots x (drop (l.j + 1) (take a.count a.ids))) (arranged_leaf a.slots l.out (get_or a.ids l.j 0) c.if-first-ge128.true)
-      ∙ arranged_more a.slots l.out l.j a.count a.ids c.loop-j-test.true (omega (arith, c.loop-j-test.true, c.requires.0, e))
-      ∙ l.invariant.0,
-  omega arith,
-)
+loop-id-preserved-then-first-ge128 c = let l = c.loop-id in let s = c.args.slots in let ids = c.args.ids.now in
+    ap (λ (x : List LayoutSlot). arrange_all s x (drop (l.id-index + 1) ids)) (arranged_leaf s l.out (get_or ids l.id-index 0) c.if-first-ge128.true)
+    ∙ arranged_more s l.out l.id-index ids c.loop-id-test.true
+    ∙ l.invariant
 
 pub loop-child-init : goal.loop-child-init
 unfolding no_grows
@@ -43,21 +43,19 @@ bounds-out-c-in-loop-next-2 c = (goes_on c.loop-next.next c.loop-next.passed c.l
 pub bounds-slots-c-in-loop-next : goal.bounds-slots-c-in-loop-next
 bounds-slots-c-in-loop-next c = (goes_on c.loop-next.next c.loop-next.passed c.loop-next-test.true).0
 
-pub loop-j-preserved : goal.loop-j-preserved
-unfolding kids_at at layout_at
-loop-j-preserved c = let l = c.loop-j in let a = c.args in let w = c.loop-child in let v = c.loop-next in
-    let e : length a.ids ≡ 128 = search rules in
-    let i : ℕ = get_or a.ids l.j 0 in
-    let cs : List Child = map (seen l.out) (kids_at a.slots i) in
+pub loop-id-preserved : goal.loop-id-preserved
+unfolding kids_at at layout_at inner_of
+loop-id-preserved c = let l = c.loop-id in let s = c.args.slots in let ids = c.args.ids.now in let w = c.loop-child in let v = c.loop-next in
+    let i : ℕ = get_or ids l.id-index 0 in
+    let cs : List Child = map (seen l.out) (kids_at s i) in
     let style = (layout_at l.out i).style in
     let sums = summing_done style refl w.invariant.summing c.loop-child-test.false in
-    let left = c.leftover_of-leftover in let out = c.share_out-free in let run = c.run_start-at in let corner = c.content_corner-corner in
-    let placed = placed_by_parts style (layout_at l.out i).rect cs _ _ _ _ _ _ _ _ _ (omega (arith, sums.1, w.invariant.summing.most)) sums.1 (gathering_done w.invariant c.loop-child-test.false) corner.ensures.0 corner.ensures.1 run.ensures.1 (said left.result left.type_inv (left.ensures cs sums)) out.ensures.shared out.ensures.rest (run.ensures.0 ∙ ap (offset style.justify) (back out.result out.type_inv)) in (
-      ap (λ (x : List LayoutSlot). arrange_all a.slots x (drop (l.j + 1) (take a.count a.ids))) (arranged a.slots l.out v.out i _ (boxing_done v.invariant c.loop-next-test.false) placed)
-          ∙ arranged_more a.slots l.out l.j a.count a.ids c.loop-j-test.true (omega (arith, c.loop-j-test.true, c.requires.0, e))
-          ∙ l.invariant.0,
-      omega (arith, c.loop-j-test.true),
-    )
+    let left = c.leftover_of-leftover in let out = c.share_out-free in let run = c.run_start-at in let box = c.content_box-content in
+    let room : axes_of c.axes-room.result ≡ inner_of style.direction style.padding (layout_at l.out i).rect = c.axes-room.ensures ∙ ap₂ (axes style.direction) (back box.result.width (search rules)) (back box.result.height (search rules)) ∙ ap (λ (r : Rect). axes style.direction r.width r.height) box.ensures in
+    let placed = placed_by_parts style (layout_at l.out i).rect cs _ _ _ _ _ _ _ _ _ (omega (arith, sums.1, w.invariant.summing.most)) sums.1 (gathering_done w.invariant c.loop-child-test.false) (ap (λ (r : Rect). r.x) box.ensures) (ap (λ (r : Rect). r.y) box.ensures) (run.ensures.1 ∙ ap (λ (x : Axes). x.cross) room) (said left.result left.type_inv (left.ensures cs sums) ∙ ap (λ (x : Axes). sub_sat x.main (content style cs).main) room) out.ensures.shared out.ensures.rest (run.ensures.0 ∙ ap (offset style.justify) (back out.result out.type_inv)) in
+    ap (λ (x : List LayoutSlot). arrange_all s x (drop (l.id-index + 1) ids)) (arranged s l.out v.out i _ (boxing_done v.invariant c.loop-next-test.false) placed)
+    ∙ arranged_more s l.out l.id-index ids c.loop-id-test.true
+    ∙ l.invariant
 
 pub loop-next-smaller : goal.loop-next-smaller
 loop-next-smaller c = let w = c.loop-next in let g = goes_on w.next w.passed c.loop-next-test.true in search rules
@@ -67,5 +65,4 @@ unfolding at layout_at
 loop-next-preserved c = boxing_more c.loop-next.invariant c.loop-next-test.true (back _ (search rules)) c.child_box-b.ensures c.with_rect.ensures c.past_child-at.ensures.0 c.past_child-at.ensures.1
 
 pub returns : goal.returns
-returns c = let l = c.loop-j in let a = c.args in
-    arranged_none a.slots l.out l.j a.count a.ids (omega (arith, c.loop-j-test.false)) ∙ l.invariant.0
+returns c = arranged_none c.args.slots c.loop-id.out c.loop-id.id-index c.args.ids.now c.loop-id-test.false ∙ c.loop-id.invariant

@@ -1,7 +1,7 @@
--- The slots passed, from the last on, are measured; the index falls. Along a node's children what is left of the sum gives the whole. Assumes nothing.
-use lib.ListN.{take, drop}
-use Prim.Native.Nat.{◌-◌, ◌≤◌}
+-- What is left of the order, measured from here, gives the whole. Along a node's children what is left of the sum gives the whole. Assumes nothing.
+use Prim.Native.Nat.{◌-◌}
 use mathlib.Core.Path.{◌≡◌}
+use Rattle.arena.specs.Support.Lists.{Small}
 use Rattle.boxes.proofs.Layouts.PassSteps.{Summing}
 use Rattle.boxes.specs.Layout.{measure_all}
 use Rattle.boxes.proofs.layout.measure_all.Given as goal
@@ -12,8 +12,5 @@ invariant-loop-child l = Summing l.slots l.out l.d l.initial.child l.sum l.child
 abbrev pub decreases-loop-child : goal.decreases-loop-child
 decreases-loop-child l = 128 - l.n
 
-abbrev pub invariant-loop-j : goal.invariant-loop-j
-invariant-loop-j l = (l.out ≡ measure_all l.slots l.initial.out (drop l.j (take l.count l.ids))) × (l.j ≤ l.count)
-
-abbrev pub decreases-loop-j : goal.decreases-loop-j
-decreases-loop-j l = l.j
+abbrev pub invariant-loop-id : goal.invariant-loop-id
+invariant-loop-id l = (measure_all l.slots l.out l.id-iterator.iter.rest.now ≡ measure_all l.slots l.initial.out l.fn.ids) × Small l.id-iterator.iter.rest.now

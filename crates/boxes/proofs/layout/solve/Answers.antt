@@ -1,7 +1,7 @@
 -- The order's slots are slots, so both folds are the definition's. Assumes nothing.
 use mir.Val.{to_z, of_z}
 use mir.Syntax.{w64}
-use lib.ListN.{take, set}
+use lib.ListN.{set}
 use lib.IntN.{ℤ, pos}
 use Prim.Native.Nat.{ℕ}
 use mathlib.Core.List.{List, [], ◌∷◌}
@@ -12,13 +12,20 @@ use Rattle.boxes.specs.declared.LayoutSlot.{LayoutSlot}
 use Rattle.boxes.specs.Layout.{measure_all, arrange_all, with_rect, view_rect, passed}
 use Rattle.boxes.specs.Styles.{layout_at}
 use Rattle.arena.specs.Slots.{order}
+use Rattle.boxes.proofs.Layouts.Passes.{small_listed}
 use Rattle.boxes.proofs.layout.solve.Goals as goal
+
+pub measure_all-out-requires : goal.measure_all-out-requires
+measure_all-out-requires c = rw c.as_slice-ids.ensures (small_listed c.reach_root.result.order c.reach_root.ensures.1)
+
+pub arrange_all-requires : goal.arrange_all-requires
+arrange_all-requires c = rw c.as_slice-ids.ensures (small_listed c.reach_root.result.order c.reach_root.ensures.1)
 
 pub returns : goal.returns
 unfolding layout_at passed
-returns c = let a = c.args in let o = c.reach_root-reached in let m = c.measure_all-out in let w = c.with_rect in
+returns c = let a = c.args in let o = c.reach_root in let m = c.measure_all-out in let w = c.with_rect in
     let all : List ℕ = order 128 a.slots (0 ∷ []) in
-    let is : take o.result.count o.result.items ≡ all = o.ensures.2 in
+    let is : c.as_slice-ids.result.now ≡ all = c.as_slice-ids.ensures ∙ o.ensures.2 in
     let box : w.result ≡ with_rect (layout_at m.result 0) (view_rect a.view) =
     w.ensures
     ∙ ap (λ (z : ℤ). with_rect (layout_at m.result 0) (record { x = pos 0; y = pos 0; width = z; height = to_z w64 (of_z w64 a.view.height) })) (back a.view.width (search rules))

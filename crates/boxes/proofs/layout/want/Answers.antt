@@ -6,5 +6,5 @@ use Rattle.boxes.proofs.layout.want.Goals as goal
 
 pub returns : goal.returns
 unfolding want
-returns c = λ cs sums. let w = c.wanted in let h = c.wanted-2 in
-    rw (← c.content_extent-c.ensures cs sums, ← c.turned-e.ensures, said w.result w.type_inv w.ensures, said h.result h.type_inv h.ensures) (search rules)
+returns c = λ cs sums. let w = c.wanted-wide in let h = c.wanted-high in
+    rw (← c.content_extent-c.ensures cs sums, ← c.turned-width.ensures, said w.result w.type_inv w.ensures, said h.result h.type_inv h.ensures) (search rules)

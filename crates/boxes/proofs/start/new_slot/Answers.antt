@@ -4,6 +4,8 @@ use Prim.Native.Nat.{ℕ, zero, suc, ◌+◌, ◌≤◌, ◌<◌}
 use native.Mathlib.Omega.{arith}
 use borrow.Author.Rules.{rules}
 use borrow.Author.Tests.{lt-ltb, le-ltb}
+use mathlib.Core.Bool.{false}
+use Rattle.arena.specs.declared.Slot.{Slot}
 use Rattle.arena.specs.Slots.{NIL, no_slot, used, idle, new_slot}
 use Rattle.boxes.proofs.start.new_slot.Goals as goal
 
@@ -11,6 +13,9 @@ root : (n i : ℕ) → i ≡ 0 → used 1 NIL NIL NIL NIL NIL ≡ new_slot n i
 unfolding new_slot
 root n zero e = refl
 root n (suc i) e = absurd (omega arith)
+
+zeros : (s : Slot) → (s.generation ≡ 0) × ((s.live ≡ false) × ((s.parent ≡ 0) × ((s.first_child ≡ 0) × ((s.last_child ≡ 0) × ((s.prev_sibling ≡ 0) × (s.next_sibling ≡ 0)))))) → s ≡ no_slot
+zeros s (g, (l, (p, (f, (e, (b, n)))))) = λ z. record { generation = g z; live = l z; parent = p z; first_child = f z; last_child = e z; prev_sibling = b z; next_sibling = n z }
 
 outside : (n i : ℕ) → 0 < i → n ≤ i → no_slot ≡ new_slot n i
 unfolding new_slot
@@ -34,7 +39,7 @@ pub returns-then-i-eq0 : goal.returns-then-i-eq0
 returns-then-i-eq0 c = c.first_slot.ensures ∙ root c.args.n c.args.i c.if-i-eq0.true
 
 pub returns-then-n-i : goal.returns-then-n-i
-returns-then-n-i c = outside _ _ (omega arith) (search rules)
+returns-then-n-i c = zeros c.default.result c.default.ensures ∙ outside c.args.n c.args.i (omega arith) (search rules)
 
 pub returns-then-n-i-2 : goal.returns-then-n-i-2
 returns-then-n-i-2 c = c.first_slot-then-n-i-2.ensures ∙ last c.args.n c.args.i (omega arith) (omega arith) (omega arith)

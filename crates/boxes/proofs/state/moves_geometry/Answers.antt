@@ -1,12 +1,9 @@
--- A test for each part; the gaps are compared by their bits. Assumes nothing.
-use mathlib.Core.Path.{refl}
-use borrow.Author.Rules.{rules}
-use Rattle.arithmetic.specs.Tests.{same}
-use Rattle.boxes.proofs.Styles.Raws.{same_by_bits, moves_by_parts}
+-- The gap goes into the other style by its bits. Assumes nothing.
+use Rattle.std.proofs.Common.{rules, ◌∙◌}
+use mir.Syntax.{w64}
+use mir.ValLaws.{to_z-of_z}
+use Rattle.boxes.proofs.Styles.Equality.{differ_in_geometry}
 use Rattle.boxes.proofs.state.moves_geometry.Goals as goal
 
 pub returns : goal.returns
-unfolding same
-returns c = let a = c.args.base in let b = c.args.resolved in
-    moves_by_parts a b c.same_direction-direction.ensures c.same_size-width.ensures c.same_size-height.ensures c.same_edges-margin.ensures c.same_edges-padding.ensures
-    (same_by_bits a.gap b.gap (search rules) (search rules)) refl c.same_align-justify.ensures c.same_align-cross.ensures
+returns c = c.ne.ensures ∙ differ_in_geometry c.args.base c.args.resolved (to_z-of_z w64 c.args.base.gap (search rules))

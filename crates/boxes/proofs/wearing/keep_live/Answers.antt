@@ -3,18 +3,17 @@ use mathlib.Core.Path.{refl}
 use Rattle.boxes.specs.States.{live_slot}
 use Rattle.arithmetic.specs.Tests.{same}
 use Rattle.boxes.specs.Support.Wearing.{kept_live}
-use borrow.Author.Rules.{rules}
 use Rattle.boxes.proofs.wearing.keep_live.Goals as goal
 
-pub returns-then-live : goal.returns-then-live
+pub returns-then-is_live : goal.returns-then-is_live
 unfolding live_slot kept_live same
-returns-then-live c =
-    (rw (c.in-Present.is, ← c.is_live-live.ensures, c.if-live.true, ← c.bits_at-bits.ensures) c.keep.ensures.0, c.keep.ensures.1)
+returns-then-is_live c =
+    rw (c.in-Some.is, ← c.is_live.ensures, c.if-is_live.true, ← c.slot_at-s.ensures, ← c.bits_in-bits.ensures) c.keep.ensures
 
-pub returns-in-Absent : goal.returns-in-Absent
+pub returns-else-is_live : goal.returns-else-is_live
 unfolding live_slot kept_live
-returns-in-Absent c = (rw c.in-Absent.is refl, search rules)
+returns-else-is_live c = rw (c.in-Some.is, ← c.is_live.ensures, c.if-is_live.false) refl
 
-pub returns-else-live : goal.returns-else-live
+pub returns-in_default : goal.returns-in_default
 unfolding live_slot kept_live
-returns-else-live c = (rw (c.in-Present.is, ← c.is_live-live.ensures, c.if-live.false) refl, search rules)
+returns-in_default c = rw c.in_default.is refl

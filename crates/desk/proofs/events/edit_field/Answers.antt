@@ -1,20 +1,26 @@
--- By the place of the node's field. Assumes nothing.
+-- By the place of the node's field, and whether the key changed it. Assumes nothing.
+use Rattle.std.specs.Prelude.{Some}
 use mathlib.Core.Path.{◌≡◌, sym, ap, ◌∙◌}
 use lib.ListN.{set}
 use Rattle.tree.specs.Fields.{owns, change_first}
 use Rattle.tree.specs.Places.{place_of}
-use Rattle.tree.specs.Trees.{with_interaction, with_fields, with_event_parts}
-use Rattle.tree.specs.Types.{At}
+use Rattle.tree.specs.Trees.{with_interaction, with_fields}
 use Rattle.tree.proofs.Places.{the_place_is_changed}
 use Rattle.desk.specs.Events.{keyed_field, edit_fold}
 use Rattle.desk.proofs.events.edit_field.Goals as goal
 
-pub returns-in-At : goal.returns-in-At
-unfolding with_interaction with_fields with_event_parts edit_fold
-returns-in-At c = λ u. let p = c.args.p in
-    let d = c.args.d in
-    let key = c.args.key in
-    let i = c.in-At.i in
-    let h : place_of d p.fields ≡ At i = sym c.field_place.ensures.0 ∙ c.in-At.is in
-    let fs : c.with_field-next.result ≡ change_first (owns d) (keyed_field key) p.fields = c.with_field-next.ensures ∙ ap (set p.fields i) (c.keyed_field-g.ensures ∙ ap (keyed_field key) c.field_at-f.ensures) ∙ the_place_is_changed d (keyed_field key) p.fields i h in
-    rw (← c.field_place.ensures.1, c.in-At.is, ← fs, ← c.field_at-f.ensures, ← c.keyed_field-g.ensures, ← c.has_changed.ensures, ← c.folded-after.ensures)
+pub returns-then-has_changed : goal.returns-then-has_changed
+unfolding with_interaction with_fields edit_fold
+returns-then-has_changed c =
+    let u = c.args.u.now in
+    let h : place_of c.args.d u.fields ≡ Some c.in-Some.i = sym c.field_place.ensures.0 ∙ c.in-Some.is in
+    let fs : c.with_field-u.result ≡ change_first (owns c.args.d) (keyed_field c.args.key) u.fields = c.with_field-u.ensures ∙ ap (set u.fields c.in-Some.i) (c.keyed_field-g.ensures ∙ ap (keyed_field c.args.key) c.field_at-f.ensures) ∙ the_place_is_changed c.args.d (keyed_field c.args.key) u.fields c.in-Some.i h in
+    rw (← c.field_place.ensures.1, c.in-Some.is, ← fs, ← c.field_at-f.ensures, ← c.keyed_field-g.ensures, sym c.has_changed.ensures ∙ c.if-has_changed.true, c.edit_fold-u.ensures)
+
+pub returns-else-has_changed : goal.returns-else-has_changed
+unfolding with_interaction with_fields
+returns-else-has_changed c =
+    let u = c.args.u.now in
+    let h : place_of c.args.d u.fields ≡ Some c.in-Some.i = sym c.field_place.ensures.0 ∙ c.in-Some.is in
+    let fs : c.with_field-u.result ≡ change_first (owns c.args.d) (keyed_field c.args.key) u.fields = c.with_field-u.ensures ∙ ap (set u.fields c.in-Some.i) (c.keyed_field-g.ensures ∙ ap (keyed_field c.args.key) c.field_at-f.ensures) ∙ the_place_is_changed c.args.d (keyed_field c.args.key) u.fields c.in-Some.i h in
+    rw (← c.field_place.ensures.1, c.in-Some.is, ← fs, ← c.field_at-f.ensures, ← c.keyed_field-g.ensures, sym c.has_changed.ensures ∙ c.if-has_changed.false)

@@ -1,19 +1,24 @@
 -- By whether there is a press, and whether it is hit again. Assumes nothing.
-use mathlib.Core.Path.{sym, ap, ◌∙◌}
-use mathlib.Core.Bool.{Bool, cond}
-use Rattle.field.specs.declared.MaybeId.TheVariants.{Absent}
-use Rattle.tree.specs.Trees.{with_interaction, with_event_parts}
-use Rattle.desk.specs.Events.{pressed_on, activate, released_on}
-use Rattle.desk.specs.Support.Parts.{with_parts}
+use Rattle.std.proofs.Common.{◌≡◌, sym, ◌∙◌, true, false, rules}
+use Rattle.arithmetic.specs.Tests.{same}
+use Rattle.arena.specs.Slots.{is_id}
+use Rattle.tree.specs.Trees.{with_interaction}
+use Rattle.arena.proofs.Owners.Places.{is_id_by}
 use Rattle.desk.proofs.events.release.Goals as goal
+use Rattle.desk.proofs.events.release.Goals.{in_default-via-in-Some+else-eq, in_default-via-in_default}
 
-pub returns-in-Absent : goal.returns-in-Absent
-unfolding with_event_parts
-returns-in-Absent c = λ w e. c.press.ensures w ∙ ap (released_on (with_parts w c.args.p) c.args.hit) (sym c.in-Absent.is)
+pub returns-in-Some : goal.returns-in-Some
+unfolding same
+returns-in-Some c =
+    let e : is_id c.args.hit c.in-Some.d ≡ true = sym (c.eq.ensures ∙ is_id_by _ c.args.hit c.in-Some.d (λ a b. search rules)) ∙ c.if-eq.true in
+    rw (c.in-Some.is, e) c.activate.ensures
 
-pub returns-else-is_id : goal.returns-else-is_id
-unfolding with_event_parts
-returns-else-is_id c = λ w e. let u = with_parts w c.args.p in
-    let hit = c.args.hit in
-    let d = c.in-Present.d in
-    c.press-in-Present.ensures w ∙ ap (λ (b : Bool). cond b (activate u d) (with_interaction u (pressed_on u.interaction Absent))) (sym c.if-is_id.false ∙ c.is_id.ensures) ∙ ap (released_on u hit) (sym c.in-Present.is)
+pub returns-in_default : goal.returns-in_default
+unfolding with_interaction same
+returns-in_default c =
+    elim c.in_default.branch [
+      | in_default-via-in-Some+else-eq w ↦
+          let e : is_id c.args.hit w.in-Some.d ≡ false = sym (w.eq.ensures ∙ is_id_by _ c.args.hit w.in-Some.d (λ a b. search rules)) ∙ w.if-eq.false in
+          rw (w.in-Some.is, e)
+      | in_default-via-in_default w ↦ rw w.in_default.is
+    ]

@@ -1,13 +1,12 @@
--- A field is refused just where `sound` says that it breaks the rules. Assumes nothing.
-use mathlib.Core.Path.{sym, ap, ◌∙◌}
-use Rattle.text.specs.Refusal.{accepted}
-use Rattle.field.specs.Fields.{edit_answer, insert_answer}
+-- The closure is the edit. Assumes nothing.
+use Rattle.std.proofs.Common.{◌≡◌, rules}
+use Rattle.arithmetic.proofs.TestLaws.{bool_cases}
+use Rattle.field.specs.Fields.{field_ok, edit_answer, edited}
 use Rattle.field.proofs.Field.try_edit.Goals as goal
 
-pub returns-then-not-sound : goal.returns-then-not-sound
-unfolding edit_answer insert_answer
-returns-then-not-sound c = rw (sym c.sound.ensures ∙ c.if-not-sound.true)
-
 pub returns : goal.returns
-unfolding edit_answer insert_answer
-returns c = rw (sym c.sound.ensures ∙ c.if-not-sound.false) (ap accepted c.edit.ensures)
+unfolding edit_answer
+returns c =
+    bool_cases (field_ok c.args.self)
+    (λ e. let s = c.tried.ensures.sound e in let f : c.tried.result.field ≡ edited c.args.self c.args.op = search rules in rw (e, f, s.1))
+    (λ e. rw (e, c.tried.ensures.broken e))

@@ -1,8 +1,12 @@
 -- Each refusal by its test, and nothing written; else the count and the starts. Assumes nothing.
-use mathlib.Core.Path.{sym, ap, ◌∙◌}
+use mathlib.Core.Path.{sym, ap, ap₂, ◌∙◌}
+use mathlib.Core.List.{List, ◌++◌}
+use Prim.Native.Nat.{ℕ}
 use native.Mathlib.Omega.{arith}
+use lib.ListN.{drop}
 use Rattle.text.specs.Refusal.{accepted}
 use Rattle.text.proofs.LineStarts.{ill_formed, too_long, too_wide, too_small, served}
+use Rattle.text.proofs.LineParts.{starts_length}
 use Rattle.text.proofs.lines.break_lines.Goals as goal
 
 pub returns-then-not-is_utf8 : goal.returns-then-not-is_utf8
@@ -25,5 +29,7 @@ pub returns : goal.returns
 returns c =
     let m = c.counted-c.ensures in
     let r = served c.args.s.now c.args.width c.args.starts.now (sym c.is_utf8.ensures ∙ c.if-not-is_utf8.false) c.if-s-gt1024.false
-    (omega (arith, m.1)) (omega (arith, m.0)) in
-    (ap accepted m.0 ∙ r.0, c.write_starts.ensures ∙ r.1)
+    (omega (arith, m.1)) (omega (arith, m.0)) in (
+      ap accepted m.0 ∙ r.0,
+      ap₂ (λ (a : List ℕ) (k : ℕ). a ++ drop k c.args.starts.now) c.write_starts.ensures (m.0 ∙ sym (starts_length 0 _)) ∙ r.1,
+    )

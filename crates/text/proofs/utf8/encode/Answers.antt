@@ -4,13 +4,6 @@ use Rattle.text.specs.Utf8.{encoded_as}
 use Rattle.text.proofs.Lengths.{a_character}
 use Rattle.text.proofs.utf8.encode.Goals as goal
 
-pub returns-then-not-is_scalar : goal.returns-then-not-is_scalar
-unfolding encoded_as
-returns-then-not-is_scalar c = rw (sym c.is_scalar.ensures ∙ c.if-not-is_scalar.true)
-
-pub bytes_of-requires : goal.bytes_of-requires
-bytes_of-requires c = (sym c.is_scalar.ensures ∙ c.if-not-is_scalar.false, c.length_of-len.ensures)
-
 pub returns : goal.returns
 unfolding encoded_as
 returns c =

@@ -1,15 +1,10 @@
-use mathlib.Core.Path.{refl, sym, ◌∙◌}
-use borrow.Author.Rules.{rules}
-use Rattle.arithmetic.proofs.FoldLaws.{absorbed_from, absorbed_past}
+use mathlib.Core.Path.{sym}
+use native.Mathlib.Omega.{arith}
+use Rattle.arithmetic.proofs.FoldLaws.{absorbed_none, absorbed_more}
 use Rattle.arithmetic.proofs.fold.StateHash.absorb_bytes.Goals as goal
 
-pub loop-i-init : goal.loop-i-init
-loop-i-init c = (search rules, refl)
+pub loop-b-init : goal.loop-b-init
+loop-b-init c = sym (absorbed_none c.args.self)
 
-pub loop-i-preserved : goal.loop-i-preserved
-loop-i-preserved c =
-    (search rules, rw c.absorb_byte-hash.ensures (absorbed_from c.loop-i.hash c.args.s.now c.loop-i.i (search rules) ∙ c.loop-i.invariant.1))
-
-pub returns : goal.returns
-returns c =
-    sym (absorbed_past c.loop-i.hash c.args.s.now c.loop-i.i (search rules)) ∙ c.loop-i.invariant.1
+pub loop-b-preserved : goal.loop-b-preserved
+loop-b-preserved c = rw (c.absorb_byte-hash.ensures, c.loop-b.invariant) (absorbed_more c.args.self c.args.s.now c.loop-b.b-index (omega arith))

@@ -1,8 +1,0 @@
--- By computation. Assumes nothing.
-use mathlib.Core.Path.{refl}
-use Rattle.field.specs.Fields.{empty_field}
-use Rattle.field.proofs.Field.owned.Goals as goal
-
-pub returns : goal.returns
-unfolding empty_field
-returns c = refl

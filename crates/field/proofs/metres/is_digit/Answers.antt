@@ -1,8 +1,0 @@
--- The code's test is `within`. Assumes nothing.
-use mathlib.Core.Path.{refl}
-use Rattle.arithmetic.specs.Tests.{within}
-use Rattle.field.proofs.metres.is_digit.Goals as goal
-
-pub returns : goal.returns
-unfolding within
-returns c = refl
