@@ -4,7 +4,7 @@ use mathlib.Core.Path.{◌≡◌, refl, sym, ap, ◌∙◌, subst}
 use mathlib.Core.Bool.{Bool, true, false, cond, not}
 use mathlib.Core.List.{List, [], ◌∷◌, ◌++◌, map, append_assoc}
 use Prim.Native.Nat.{ℕ, zero, suc, ◌+◌, ◌-◌, ◌*◌, ◌^◌, ◌≤◌, ◌<◌, min}
-use native.Mathlib.Nat.{lt_of_not-le}
+use native.Mathlib.Nat.{le_trans, lt_of_not-le}
 use native.Mathlib.Omega.{arith}
 use borrow.Author.Tests.{ltb-true, ltb-false, le-ltb, lt-ltb, ne_eqb}
 use lib.Dec.{ltb}
@@ -24,7 +24,7 @@ use Rattle.text.proofs.Complete.{written_well, written_reads}
 use Rattle.text.proofs.Greedy.{full, fewest, one_line, words_whole}
 use Rattle.text.proofs.LineBytes.{text_bytes}
 use Rattle.text.proofs.LineRows.{the_rows_hold}
-use Rattle.text.proofs.LineParts.{advance_small, width_small}
+use Rattle.text.proofs.LineParts.{advance_small, width_small, starts_length}
 use Rattle.text.proofs.LineStarts.{count_in_bytes, lines_fit, words_fit, of_the_text}
 use Rattle.text.proofs.Sound.{read_writes}
 use Rattle.text.proofs.Words.{spaceless, spaceless_one_line, words_plain}
@@ -60,14 +60,20 @@ start_at (suc k) s l (m ∷ ms) h =
     ap (λ (x : ℕ). drop (get_or (starts_from x (m ∷ ms)) k 0) (s ++ (l ++ (32 ∷ (m ++ behind ms))))) n
     ∙ ap (λ (y : List ℕ). drop (get_or (starts_from (length p) (m ∷ ms)) k 0) y) e ∙ start_at k p m ms (omega arith)
 
+-- and no line starts past the end
+start_inside : (k : ℕ) (l : List ℕ) (ls : List (List ℕ)) (n : ℕ) → k ≤ length ls → get_or (starts_from n (l ∷ ls)) k 0 ≤ n + length (l ++ behind ls)
+unfolding starts_from behind
+start_inside zero l ls n h = omega arith
+start_inside (suc k) l [] n h = absurd (omega arith)
+start_inside (suc k) l (m ∷ ms) n h = le_trans (start_inside k m ms _ (omega arith)) (omega (arith, length-append l (32 ∷ (m ++ behind ms))))
+
 start : (k : ℕ) (b : Lines) → k < count_of b → drop (get_or (starts_of b) k 0) (text_of b) ≡ text_of (from_line k b)
 unfolding count_of starts_of from_line text_of
 start k (lines l ls) h = start_at k [] l ls (omega arith)
 
-starts_length : (ls : List (List ℕ)) (n : ℕ) → length (starts_from n ls) ≡ length ls
-unfolding starts_from
-starts_length [] n = refl
-starts_length (m ∷ ms) n = ap suc (starts_length ms _)
+inside : (k : ℕ) (b : Lines) → k < count_of b → get_or (starts_of b) k 0 ≤ length (text_of b)
+unfolding count_of starts_of text_of
+inside k (lines l ls) h = omega (arith, start_inside k l ls 0 (omega arith))
 
 as_many_starts : (b : Lines) → length (starts_of b) ≡ count_of b
 unfolding count_of starts_of
@@ -102,13 +108,23 @@ module _ (s : List ℕ) (w : ℕ) where
     unfolding starts_of
     count = starts_length (all_of (in_bytes (lines_of s w))) 0 ∙ count_in_bytes (lines_of s w) ∙ (as_asked (length buf) n h).counted
 
-    each_place : (k : ℕ) → k < n → drop (get_or (starts_kept s w buf) k 0) s ≡ text_of (from_line k (in_bytes (lines_of s w)))
-    each_place k q =
-        let b : Lines = in_bytes (lines_of s w) in
-        let t : text_of b ≡ s = text_bytes (lines_of s w) ∙ ap encoded_all (of_the_text s w) ∙ read_writes s (well_formed (length buf) n h) in
-        let g : get_or (starts_kept s w buf) k 0 ≡ get_or (starts_of b) k 0 =
-        ap (λ (l : List ℕ). get_or l k 0) written ∙ get_or-append (starts_of b) (drop (length (starts_of b)) buf) 0 k (omega (arith, count)) in
-        ap (λ (i : ℕ). drop i s) g ∙ ap (λ (x : List ℕ). drop (get_or (starts_of b) k 0) x) (sym t) ∙ start k b (omega (arith, count, as_many_starts b))
+    module _ (k : ℕ) (q : k < n) where
+      place : get_or (starts_kept s w buf) k 0 ≡ get_or (starts_of (in_bytes (lines_of s w))) k 0
+      place =
+          let b : Lines = in_bytes (lines_of s w) in
+          ap (λ (l : List ℕ). get_or l k 0) written ∙ get_or-append (starts_of b) (drop (length (starts_of b)) buf) 0 k (omega (arith, count))
+
+      of_the_bytes : text_of (in_bytes (lines_of s w)) ≡ s
+      of_the_bytes = text_bytes (lines_of s w) ∙ ap encoded_all (of_the_text s w) ∙ read_writes s (well_formed (length buf) n h)
+
+      among : k < count_of (in_bytes (lines_of s w))
+      among = omega (arith, count, as_many_starts (in_bytes (lines_of s w)))
+
+      each_place : drop (get_or (starts_kept s w buf) k 0) s ≡ text_of (from_line k (in_bytes (lines_of s w)))
+      each_place = rw place (ap (λ (x : List ℕ). drop (get_or (starts_of (in_bytes (lines_of s w))) k 0) x) (sym of_the_bytes) ∙ start k (in_bytes (lines_of s w)) among)
+
+      not_past_the_end : get_or (starts_kept s w buf) k 0 ≤ length s
+      not_past_the_end = omega (arith, place, ap length of_the_bytes, inside k (in_bytes (lines_of s w)) among)
 
     further_places : (k : ℕ) → n ≤ k → get_or (starts_kept s w buf) k 0 ≡ get_or buf k 0
     further_places k q =
@@ -153,6 +169,7 @@ pub labels_in_lines : LabelsInLines
 labels_in_lines = record {
   the_lines_are_as_asked = as_asked;
   each_place_is_a_start = each_place;
+  no_place_is_past_the_end = not_past_the_end;
   further_places_are_kept = further_places;
   a_refusal_writes_nothing = writes_nothing;
   the_words_are_of_the_text = words_whole advance_of;

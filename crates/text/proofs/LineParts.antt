@@ -270,10 +270,10 @@ unfolding over_at
 over_whole r d h = rw (drop_of_length-le d {i = length r} (omega arith), append-nil r)
 
 -- each line has a start
-pub starts_length : (n : ℕ) (ls : List (List ℕ)) → length (starts_from n ls) ≡ length ls
+pub starts_length : (ls : List (List ℕ)) (n : ℕ) → length (starts_from n ls) ≡ length ls
 unfolding starts_from
-starts_length n [] = refl
-starts_length n (m ∷ ms) = ap suc (starts_length (n + length m + 1) ms)
+starts_length [] n = refl
+starts_length (m ∷ ms) n = ap suc (starts_length ms _)
 
 pub over_nothing : (n : ℕ) (d r : List ℕ) → length r ≡ 0 → over_at n r d ≡ d
 over_nothing n d [] h = over_done n d

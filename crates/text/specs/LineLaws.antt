@@ -58,9 +58,12 @@ rows =
 
 pub record LabelsInLines : Type 0 where
   pub the_lines_are_as_asked : (s : List ℕ) (w room n : ℕ) → line_count_of s w room ≡ accepted n → AsAsked s w n (lines_of s w)
-  -- where place k says that line k starts, stand the bytes of that line and of those behind it
+  -- where place k says that line k starts, stand the bytes of that line and of those behind it; and it is inside the text or at its end, so that no
+  -- other place would do
   pub each_place_is_a_start : (s : List ℕ) (w n : ℕ) (buf : List ℕ) → line_count_of s w (length buf) ≡ accepted n
       → (k : ℕ) → k < n → drop (get_or (starts_kept s w buf) k 0) s ≡ text_of (from_line k (in_bytes (lines_of s w)))
+  pub no_place_is_past_the_end : (s : List ℕ) (w n : ℕ) (buf : List ℕ) → line_count_of s w (length buf) ≡ accepted n
+      → (k : ℕ) → k < n → get_or (starts_kept s w buf) k 0 ≤ length s
   pub further_places_are_kept : (s : List ℕ) (w n : ℕ) (buf : List ℕ) → line_count_of s w (length buf) ≡ accepted n
       → (k : ℕ) → n ≤ k → get_or (starts_kept s w buf) k 0 ≡ get_or buf k 0
   pub a_refusal_writes_nothing : (s : List ℕ) (w : ℕ) (buf : List ℕ) → ((line_count_of s w (length buf)).number ≡ 0 → ⊥) → starts_kept s w buf ≡ buf

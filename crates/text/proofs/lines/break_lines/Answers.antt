@@ -31,5 +31,5 @@ returns c =
     let r = served c.args.s.now c.args.width c.args.starts.now (sym c.is_utf8.ensures ∙ c.if-not-is_utf8.false) c.if-s-gt1024.false
     (omega (arith, m.1)) (omega (arith, m.0)) in (
       ap accepted m.0 ∙ r.0,
-      ap₂ (λ (a : List ℕ) (k : ℕ). a ++ drop k c.args.starts.now) c.write_starts.ensures (m.0 ∙ sym (starts_length 0 _)) ∙ r.1,
+      ap₂ (λ (a : List ℕ) (k : ℕ). a ++ drop k c.args.starts.now) c.write_starts.ensures (m.0 ∙ sym (starts_length _ 0)) ∙ r.1,
     )

@@ -41,5 +41,5 @@ returns c =
     let at : ℕ = c.loop-place.at in
     let new : List ℕ = c.loop-place.starts in
     let done : length (lines_from w at s) ≡ 0 = omega (arith, c.loop-place.invariant.0, c.requires) in
-    sym (over_nothing n new _ (starts_length at (lines_from w at s) ∙ done)) ∙ c.loop-place.invariant.1
-    ∙ over_whole _ _ (starts_length 0 (lines_from w 0 s) ∙ c.requires)
+    sym (over_nothing n new _ (starts_length (lines_from w at s) at ∙ done)) ∙ c.loop-place.invariant.1
+    ∙ over_whole _ _ (starts_length (lines_from w 0 s) 0 ∙ c.requires)
