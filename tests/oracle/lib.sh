@@ -52,7 +52,7 @@ edit() { # file, lines, sed script
 # Wish 2 of document 02 on the copies of the source: the pointer is an Option, none is nowhere and the derived default.
 # All that hit-tests the stored pointer asks `hover`, which hits nothing while it is nowhere. The fingerprint takes a
 # number more.
-patch_stage() {
+patch_pointer() {
     edit renew_ui/src/input.rs 8 '
         s/pub pointer: (i32, i32),/pub pointer: Option<(i32, i32)>,/
         /pub fn handle/,/^    }/ {
@@ -68,10 +68,17 @@ patch_stage() {
     edit renew_ui/src/lib.rs 2 '/let (x, y) = self.interaction.pointer;/d; s/self.hit_test(x, y)/self.hover()/'
 }
 
+# Wish 5: half of a free space, which is positive there, is rounded down to a whole pixel, by division where the code
+# that is proved shifts.
+patch_half() {
+    edit renew_ui/src/layout.rs 1 '/^fn content_main_offset/,/^}/ s|free / Fixed::from_int(2)|Fixed::from_bits(free.to_bits() / 131_072 * 65_536)|'
+}
+
 # The stage of all that follows documents 01 and 02.
 fill_stage() { # kind
     lay_stage "$1"
-    patch_stage
+    patch_pointer
+    patch_half
 }
 
 # For the source's own pointer, which is always somewhere: both starts are its `Ui::new`.
@@ -102,11 +109,10 @@ build_scalar() {
     build scalar desk console console-scalar
 }
 
-# That with its two differences from document 01 set right: half, and which end a difference stops at.
+# That with its one difference from document 01 set right: which end a difference stops at.
 build_mended() {
     fill_stage renew_fixed_source
-    edit renew_fixed/src/scalar.rs 2 \
-        '/^impl Sub/,/^}/ s/self.0 > 0/other.0 < 0/; /fn round_div_i128/,/^}/ s/if (num.*{/if false {/'
+    edit renew_fixed/src/scalar.rs 1 '/^impl Sub/,/^}/ s/self.0 > 0/other.0 < 0/'
     build mended desk console console-mended
 }
 
@@ -121,11 +127,12 @@ build_bare() {
     build bare desk console console-bare
 }
 
-# The source's own pointer with document 01's numbers, whose fingerprint and digest take the 1 of a placed pointer: the
-# oracle has to answer alike wherever a run begins with `origin` and starts anew with it.
+# The source's own pointer with document 01's numbers and wish 5, whose fingerprint and digest take the 1 of a placed
+# pointer: the oracle has to answer alike wherever a run begins with `origin` and starts anew with it.
 build_origin() {
     lay_stage renew_fixed
     own_pointer
+    patch_half
     edit renew_ui/src/input.rs 1 '/pub fn absorb/,/^    }/ s/pointer.1.cast_unsigned());/pointer.1.cast_unsigned()).absorb_u32(1);/'
     build origin desk console console-origin
 }

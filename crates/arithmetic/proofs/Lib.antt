@@ -4,6 +4,7 @@ pub mod GrowthPlans
 pub mod GrowthRanks
 pub mod GrowthShares
 pub mod GrowthTheorems
+pub mod Halves
 pub mod Signed
 pub mod Sums
 pub mod BoolLaws

@@ -20,14 +20,14 @@ sub_sat a b = stop (a -ℤ b)
 unfoldable pub gap_times : ℤ → ℕ → ℤ
 gap_times gap count = stop (gap *ℤ pos count)
 
--- Half, rounded down: 5 gives 2, 1 gives 0, -1 gives -1, -5 gives -3.
-abbrev pub half_of : ℤ → ℤ
-half_of (pos n) = pos (n / 2)
-half_of (negsuc n) = negsuc (n / 2)
-
 -- A whole number of pixels as a raw number.
 abbrev pub from_int : ℤ → ℤ
 from_int x = x *ℤ pos 65536
+
+-- Document 02, wish 5. Half, rounded down to a whole pixel, floor(a / 131,072) times 65,536: 5 gives 0, 196,608 gives 65,536, -1 gives -65,536.
+abbrev pub half_of : ℤ → ℤ
+half_of (pos n) = from_int (pos (n / 131072))
+half_of (negsuc n) = from_int (negsuc (n / 131072))
 
 -- The larger of two numbers.
 unfoldable pub max_of : ℤ → ℤ → ℤ

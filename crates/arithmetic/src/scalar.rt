@@ -27,11 +27,11 @@ pub fn gap_times(gap: i64, count: u32) -> i64
     gap.saturating_mul(i64::from(count))
 }
 
-// Half, rounded down.
+// Half, rounded down to a whole pixel.
 pub fn half(a: i64) -> i64
     ensures { result ≡ half_of a }
 {
-    a >> 1
+    (a >> 17) * 65536
 }
 
 // A whole number of pixels as a raw number.

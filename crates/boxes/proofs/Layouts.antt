@@ -5,3 +5,4 @@ pub mod PassSteps
 pub mod Passes
 pub mod Placing
 pub mod Sharing
+pub mod Centring

@@ -2,6 +2,7 @@ pub mod Styles
 pub mod Geometry
 pub mod States
 pub mod Layout
+pub mod Centring
 pub mod Hit
 pub mod Pointers
 pub mod Nodes

@@ -64,23 +64,23 @@ source_runs =
           says (change (solve (record { width = pos 26214400; height = pos 32768000 }))) (pos 0 ∷ []) ∷
           says (ask (rect (id 0 1))) (pos 0 ∷ pos 0 ∷ pos 0 ∷ pos 26214400 ∷ pos 32768000 ∷ []) ∷
           says (ask (rect (id 1 1))) (pos 0 ∷ pos 12189696 ∷ pos 6488064 ∷ pos 13107200 ∷ pos 19660800 ∷ []) ∷
-          says (ask (rect (id 2 1))) (pos 0 ∷ pos 23461888 ∷ pos 14974975 ∷ pos 1310720 ∷ pos 655360 ∷ []) ∷
-          says (ask (rect (id 3 1))) (pos 0 ∷ pos 24248319 ∷ pos 16482303 ∷ pos 655361 ∷ pos 1310721 ∷ []) ∷
+          says (ask (rect (id 2 1))) (pos 0 ∷ pos 23461888 ∷ pos 14942208 ∷ pos 1310720 ∷ pos 655360 ∷ []) ∷
+          says (ask (rect (id 3 1))) (pos 0 ∷ pos 24248319 ∷ pos 16449536 ∷ pos 655361 ∷ pos 1310721 ∷ []) ∷
           says (ask (rect (id 4 1))) (pos 0 ∷ pos 25755648 ∷ pos 16056320 ∷ pos 327680 ∷ pos 589824 ∷ []) ∷
           says (change (set_style (id 1 1) (style Column (Px (pos 13107200)) (Px (pos 19660800)) (edges (pos 0) (pos 0) (pos 0) (pos 0)) (edges (pos 0) (pos 0) (pos 0) (pos 0)) (pos 65536) 0 Aligned.End Center))) (pos 0 ∷ []) ∷
           says (change (solve (record { width = pos 26214400; height = pos 32768000 }))) (pos 0 ∷ []) ∷
-          says (ask (rect (id 1 1))) (pos 0 ∷ pos 12320768 ∷ pos 6520832 ∷ pos 13107200 ∷ pos 19660800 ∷ []) ∷
-          says (ask (rect (id 2 1))) (pos 0 ∷ pos 18186240 ∷ pos 23887871 ∷ pos 1310720 ∷ pos 655360 ∷ []) ∷
-          says (ask (rect (id 3 1))) (pos 0 ∷ pos 18546687 ∷ pos 24870911 ∷ pos 655361 ∷ pos 1310721 ∷ []) ∷
+          says (ask (rect (id 1 1))) (pos 0 ∷ pos 12320768 ∷ pos 6488064 ∷ pos 13107200 ∷ pos 19660800 ∷ []) ∷
+          says (ask (rect (id 2 1))) (pos 0 ∷ pos 18153472 ∷ pos 23855103 ∷ pos 1310720 ∷ pos 655360 ∷ []) ∷
+          says (ask (rect (id 3 1))) (pos 0 ∷ pos 18481152 ∷ pos 24838143 ∷ pos 655361 ∷ pos 1310721 ∷ []) ∷
           says (change (set_style (id 1 1) (style Row (Px (pos 655360)) (Px (pos 655360)) (edges (pos 0) (pos 0) (pos 0) (pos 0)) (edges (pos 0) (pos 0) (pos 0) (pos 0)) (pos 65536) 0 Aligned.End Aligned.End))) (pos 0 ∷ []) ∷
           says (change (solve (record { width = pos 26214400; height = pos 32768000 }))) (pos 0 ∷ []) ∷
-          says (ask (rect (id 2 1))) (pos 0 ∷ pos 24838144 ∷ pos 16220160 ∷ pos 1310720 ∷ pos 655360 ∷ []) ∷
-          says (ask (rect (id 3 1))) (pos 0 ∷ pos 26345472 ∷ pos 16023552 ∷ pos 655361 ∷ pos 1310721 ∷ []) ∷
+          says (ask (rect (id 2 1))) (pos 0 ∷ pos 24838144 ∷ pos 16187392 ∷ pos 1310720 ∷ pos 655360 ∷ []) ∷
+          says (ask (rect (id 3 1))) (pos 0 ∷ pos 26345472 ∷ pos 15990784 ∷ pos 655361 ∷ pos 1310721 ∷ []) ∷
           says (change (set_style (id 1 1) (style Row Auto Auto (edges (pos 0) (pos 0) (pos 0) (pos 0)) (edges (pos 0) (pos 0) (pos 0) (pos 0)) (pos 65536) 0 Start Start))) (pos 0 ∷ []) ∷
           says (change (set_style (id 2 1) (style Row (Px (pos 1310720)) (Px (pos 2621440)) (edges (pos 0) (pos 0) (pos 0) (pos 0)) (edges (pos 0) (pos 0) (pos 0) (pos 0)) (pos 0) 0 Start Start))) (pos 0 ∷ []) ∷
           says (change (solve (record { width = pos 26214400; height = pos 32768000 }))) (pos 0 ∷ []) ∷
-          says (ask (rect (id 1 1))) (pos 0 ∷ pos 23396351 ∷ pos 15040512 ∷ pos 2031617 ∷ pos 2621440 ∷ []) ∷
-          says (ask (rect (id 3 1))) (pos 0 ∷ pos 24772607 ∷ pos 15040512 ∷ pos 655361 ∷ pos 1310721 ∷ []) ∷
+          says (ask (rect (id 1 1))) (pos 0 ∷ pos 23396351 ∷ pos 15007744 ∷ pos 2031617 ∷ pos 2621440 ∷ []) ∷
+          says (ask (rect (id 3 1))) (pos 0 ∷ pos 24772607 ∷ pos 15007744 ∷ pos 655361 ∷ pos 1310721 ∷ []) ∷
           [];
     } ∷
     -- 03-growth
@@ -524,6 +524,41 @@ source_runs =
           says (change (solve (record { width = pos 13107200; height = pos 6553600 }))) (pos 0 ∷ []) ∷
           says (ask (rect (id 1 1))) (pos 0 ∷ pos 0 ∷ pos 0 ∷ pos 1310720 ∷ pos 655360 ∷ []) ∷
           says (ask (rect (id 2 1))) (pos 0 ∷ pos 1310720 ∷ pos 0 ∷ pos 655360 ∷ pos 655360 ∷ []) ∷
+          [];
+    } ∷
+    -- 13-centred-field
+    record {
+      kind = New;
+      limit = 2;
+      lines =
+          gives (id 0 1) (id 1 1) 0 ∷
+          says (change (make_field (id 1 1))) (pos 0 ∷ []) ∷
+          says (change (set_style (id 0 1) (style Row Auto Auto (edges (pos 0) (pos 0) (pos 0) (pos 0)) (edges (pos 0) (pos 0) (pos 0) (pos 0)) (pos 0) 0 Center Center))) (pos 0 ∷ []) ∷
+          says (change (set_style (id 1 1) (style Row (Px (pos 6553600)) (Px (pos 1310720)) (edges (pos 0) (pos 0) (pos 0) (pos 0)) (edges (pos 0) (pos 0) (pos 0) (pos 0)) (pos 0) 0 Start Start))) (pos 0 ∷ []) ∷
+          says (change (solve (record { width = pos 19726336; height = pos 2686976 }))) (pos 0 ∷ []) ∷
+          says (ask (rect (id 1 1))) (pos 0 ∷ pos 6553600 ∷ pos 655360 ∷ pos 6553600 ∷ pos 1310720 ∷ []) ∷
+          says (change (handle (PointerMoved (pos 200) (pos 29)))) (pos 0 ∷ []) ∷
+          says (change (handle PointerPressed)) (pos 0 ∷ []) ∷
+          says (change (handle PointerReleased)) (pos 0 ∷ []) ∷
+          says_focus (pos 0 ∷ pos 0 ∷ pos 1 ∷ []) ∷
+          says (change (handle (TextEntered 57))) (pos 0 ∷ []) ∷
+          says (ask (field_text (id 1 1))) (pos 0 ∷ pos 0 ∷ []) ∷
+          says (change (handle (PointerMoved (pos 100) (pos 10)))) (pos 0 ∷ []) ∷
+          says (change (handle PointerPressed)) (pos 0 ∷ []) ∷
+          says (change (handle PointerReleased)) (pos 0 ∷ []) ∷
+          says_focus (pos 0 ∷ pos 1 ∷ pos 1 ∷ []) ∷
+          says (change (handle (TextEntered 55))) (pos 0 ∷ []) ∷
+          says (ask (field_text (id 1 1))) (pos 0 ∷ pos 1 ∷ pos 55 ∷ []) ∷
+          says (ask (metres (id 1 1))) (pos 0 ∷ pos 700 ∷ []) ∷
+          says (change (handle (PointerMoved (pos 199) (pos 30)))) (pos 0 ∷ []) ∷
+          says (change (handle PointerPressed)) (pos 0 ∷ []) ∷
+          says_pressed (pos 0 ∷ pos 0 ∷ pos 1 ∷ []) ∷
+          says (change (handle (PointerMoved (pos 199) (pos 29)))) (pos 0 ∷ []) ∷
+          says (change (handle PointerPressed)) (pos 0 ∷ []) ∷
+          says_pressed (pos 0 ∷ pos 1 ∷ pos 1 ∷ []) ∷
+          says (change (set_style (id 0 1) (style Column Auto Auto (edges (pos 0) (pos 0) (pos 0) (pos 0)) (edges (pos 0) (pos 0) (pos 0) (pos 0)) (pos 0) 0 Center Center))) (pos 0 ∷ []) ∷
+          says (change (solve (record { width = pos 19726336; height = pos 2686976 }))) (pos 0 ∷ []) ∷
+          says (ask (rect (id 1 1))) (pos 0 ∷ pos 6553600 ∷ pos 655360 ∷ pos 6553600 ∷ pos 1310720 ∷ []) ∷
           [];
     } ∷
     []

@@ -1,4 +1,4 @@
--- Document 01's examples P1 to P12, and those of document 02, as rows of one list.
+-- Document 01's examples P1 to P12, P5 as document 02 has it, and those of document 02, as rows of one list.
 use Rattle.std.specs.Prelude.{ℕ, ◌-◌, ◌*◌, ◌^◌, List, [], ◌∷◌, ◌++◌, map, ℤ, pos, take, replicate, None}
 use Rattle.arithmetic.specs.Scalar.{add_sat, half_of}
 use Rattle.arithmetic.specs.Growth.{plan_growth}
@@ -9,7 +9,7 @@ use Rattle.field.specs.Fields.{inserted}
 use Rattle.field.specs.Metres.{metres_of}
 use Rattle.field.specs.declared.Field.{Field}
 
--- What a definition gives, and what document 01 says.
+-- What a definition gives, and what the documents say.
 pub record Row : Type 0 where
   pub given : List ℤ
   pub wanted : List ℤ
@@ -42,7 +42,8 @@ rows =
     ∷ record { given = shares 3 7 (1 ∷ 2 ∷ 0 ∷ []); wanted = numbers (2 ∷ 5 ∷ 0 ∷ []) }  -- P2
     ∷ record { given = shares 2 (2 ^ 62) ((2 ^ 32 - 1) ∷ 1 ∷ []); wanted = numbers ((2 ^ 62 - 2 ^ 30) ∷ (2 ^ 30) ∷ []) }  -- P3
     ∷ record { given = shares 3 0 (1 ∷ 2 ∷ 0 ∷ []); wanted = numbers (0 ∷ 0 ∷ 0 ∷ []) }  -- P4
-    ∷ record { given = half_of (pos 5) ∷ []; wanted = numbers (2 ∷ []) }  -- P5
+    ∷ record { given = half_of (pos 5) ∷ []; wanted = numbers (0 ∷ []) }  -- P5, by wish 5 of document 02
+    ∷ record { given = half_of (pos 196608) ∷ []; wanted = numbers (65536 ∷ []) }
     ∷ record { given = add_sat (pos (2 ^ 63 - 1)) (pos 1) ∷ []; wanted = numbers ((2 ^ 63 - 1) ∷ []) }  -- P6
     ∷ record { given = numbers (encoded 0xE9); wanted = numbers (0xC3 ∷ 0xA9 ∷ []) }  -- P7
     ∷ record { given = seen (inserted (letters 62 (0 ∷ 0 ∷ [])) 0xE9); wanted = pos 64 ∷ pos 64 ∷ numbers (replicate 62 97 ++ 0xC3 ∷ 0xA9 ∷ []) }  -- P8

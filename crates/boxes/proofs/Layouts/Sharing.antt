@@ -15,6 +15,7 @@ use lib.Signed.{mag, le_z}
 use lib.Seq.{sets, sets-eq, get_or-drop}
 use Rattle.arithmetic.specs.Scalar.{stop, add_sat, sub_sat}
 use Rattle.arithmetic.specs.Growth.{sum_to, table, comes_before, rank, grow_sum, whole_share, remainder, missing, share_with_unit, share, plan_growth}
+use Rattle.arithmetic.proofs.Signed.{stop_keeps_what_fits}
 use Rattle.arithmetic.proofs.GrowthPlans.{plan_of_no_leftover, plan_of_no_grow}
 use borrow.Author.Tests.{ltb-true, ltb-false, leb-false, lt-ltb}
 use Rattle.arithmetic.proofs.GrowthTheorems.{units_at, plan_length, shares_are_not_negative, shares_sum_to_leftover}
@@ -79,14 +80,9 @@ total_of_none zero m = refl
 total_of_none (suc n) zero = refl
 total_of_none (suc n) (suc m) = ap (λ (z : ℤ). pos 0 +ℤ z) (total_of_none n m)
 
-stop_within : (z : ℤ) → mag z < 2 ^ 63 → stop z ≡ z
-unfolding stop
-stop_within (pos n) h = ap pos (omega arith)
-stop_within (negsuc n) h = ap negsuc (omega arith)
-
 less_none : (z : ℤ) → mag z < 2 ^ 63 → sub_sat z (pos 0) ≡ z
 unfolding sub_sat
-less_none z h = ap stop (+ℤ_idr z) ∙ stop_within z h
+less_none z h = ap stop (+ℤ_idr z) ∙ stop_keeps_what_fits z (record { sfits = h })
 
 less_itself : (z : ℤ) → sub_sat z z ≡ pos 0
 unfolding sub_sat stop

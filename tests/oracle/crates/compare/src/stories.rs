@@ -15,7 +15,7 @@ use crate::author::{Author, id};
 type Story = fn(&mut Author);
 
 /// The stories with how often each is told.
-const STORIES: [(usize, Story); 38] = [
+const STORIES: [(usize, Story); 39] = [
     (12, tree::grow_tree),
     (7, tree::restyle),
     (8, tree::pass),
@@ -44,6 +44,7 @@ const STORIES: [(usize, Story); 38] = [
     (7, boxes::stop_sums),
     (4, boxes::overlap),
     (5, boxes::gaps),
+    (6, boxes::centre),
     (9, labels::notice),
     (3, labels::blanks),
     (4, labels::bounds),

@@ -29,7 +29,7 @@ const ALIGNS: [&str; 3] = ["start", "center", "end"];
 pub enum Sizes {
     /// Whole pixels of a small screen, so that presses hit.
     Screen,
-    /// A few raw units, so that remainders and halves show.
+    /// A few raw units, so that remainders show.
     Fractions,
     /// Both ends of the range, so that the order of sums shows.
     Ends,

@@ -1,7 +1,7 @@
 //! `Fixed` with the meaning that document 01 gives it under Scalar: raw i64 numbers in units of
 //! 1/65536 pixel, whose sums, differences and products stop at -2^63 and 2^63 - 1.
 
-use core::ops::{Add, Div, Mul, Sub};
+use core::ops::{Add, Mul, Sub};
 
 const ONE: i64 = 65_536;
 
@@ -52,13 +52,5 @@ impl Mul for Fixed {
     type Output = Self;
     fn mul(self, count: Self) -> Self {
         stopped(i128::from(self.0) * i128::from(count.0) / i128::from(ONE))
-    }
-}
-
-/// Half of a positive number, rounded down: the source divides by two and nothing else.
-impl Div for Fixed {
-    type Output = Self;
-    fn div(self, two: Self) -> Self {
-        stopped(i128::from(self.0) * i128::from(ONE) / i128::from(two.0))
     }
 }

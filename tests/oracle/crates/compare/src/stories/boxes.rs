@@ -1,8 +1,9 @@
-//! Boxes: leftover space shared, sums that stop, gaps, siblings over one another.
+//! Boxes: leftover space shared, sums that stop, gaps, siblings over one another, centred runs.
 
 use desk::ui::NodeId;
 
 use crate::author::Author;
+use crate::stories::fields::keys;
 use crate::stories::pointer::click;
 use crate::stories::tree::tidy;
 use crate::styles::{self, PX, Sizes};
@@ -156,6 +157,44 @@ pub fn gaps(author: &mut Author) {
         author.solve();
         for node in nodes {
             author.call_on("rect", node);
+        }
+    });
+}
+
+/// What is left free for centring: about a whole number of pixels, odd or even, or of half pixels; seldom less than nothing.
+fn spare(author: &mut Author) -> i64 {
+    const ABOUT: [i64; 7] = [0, 0, 1, -1, PX / 2, PX / 2 - 1, PX - 1];
+    PX * author.rng.between(-1, 9) + author.rng.pick(&ABOUT)
+}
+
+/// A run centred in one direction or in both, pressed about its edges and typed into.
+pub fn centre(author: &mut Author) {
+    let direction = author.rng.pick(&["row", "column"]);
+    let align = author.rng.pick(&["center center", "center center", "center start", "start center", "end center"]);
+    let side = PX * author.rng.between(4, 12);
+    let many = 1 + author.rng.below(3) as i64;
+    // In half of all cases the content begins where the stage does, else past a fraction of a pixel.
+    let padding = if author.rng.chance(50) { 0 } else { author.rng.between(0, 2 * PX) };
+    let [along, across] = [many * side + spare(author), side + spare(author)];
+    let [width, height] = if direction == "row" { [along, across] } else { [across, along] };
+    let [width, height] = [width + padding, height + padding];
+    let style = format!("{direction} {width} {height} 0 0 0 0 {padding} 0 {padding} 0 0 0 {align} 0 0 0 0");
+    stage(author, &style, |author, stage| {
+        let mut nodes = Vec::new();
+        for _ in 0..many {
+            let Some(node) = author.insert(stage) else { break };
+            author.style(node, &styles::plain_box(side, side));
+            author.call_on("field", node);
+            nodes.push(node);
+        }
+        author.solve();
+        for node in nodes {
+            author.call_on("rect", node);
+            let point = author.point_near(node);
+            click(author, point);
+            author.call("focus");
+            keys(author, 1);
+            author.call_on("text", node);
         }
     });
 }
