@@ -116,12 +116,13 @@ build_mended() {
     build mended desk console console-mended
 }
 
-# The source as it stands: its own scalar.rs, its own pointer and fingerprint, its own bounds, and a focus and press that
-# hide dead ids.
+# The source as it stands: its own scalar.rs, its own pointer and fingerprint, its own bounds, no marks in the digest, and a
+# focus and press that hide dead ids.
 build_bare() {
     lay_stage renew_fixed_source
     own_pointer
     edit renew_ui/src/document.rs 1 '/fn digest_interaction/,/^    }/ s/\.absorb_u32(u32::from(self.pointer.*/;/'
+    edit desk/src/desk.rs 1 's/self.marks.digest(self.ui.digest())/self.ui.digest()/'
     edit desk/src/desk.rs 2 's/\(MOST_NODES: u32 =\) 128/\1 1_000_000/; s/\(MOST_PATCHES: usize =\) 64/\1 65_534/'
     edit renew_ui/src/document.rs 2 '/fn stored_/,/^    }/ s/self.interaction.\(focus\|pressed\)/self.\1()/'
     build bare desk console console-bare

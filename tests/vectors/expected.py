@@ -187,16 +187,23 @@ def sums():
 
 
 class Field:
-    """A text before the caret, a text behind it, and the 64 bytes, of which those past the text stay as they were."""
+    """A text before the caret, a text behind it, the 64 bytes, of which those past the text stay as they were, and the mark."""
 
     def __init__(self):
-        self.before, self.behind, self.store = "", "", bytes(64)
+        self.before, self.behind, self.store, self.mark = "", "", bytes(64), "untouched"
 
     def having(self, before, behind):
         other = Field()
         other.before, other.behind = before, behind
         text = (before + behind).encode("utf-8")
         other.store = text + self.store[len(text):]
+        # Typed is what has another text than before.
+        other.mark = self.mark if other.text() == self.text() else "typed"
+        return other
+
+    def marked(self, mark):
+        other = self.having(self.before, self.behind)
+        other.mark = mark
         return other
 
     def text(self):
@@ -236,7 +243,7 @@ class Field:
 
     def state(self):
         assert len(self.store) == 64 and self.store.startswith(self.text().encode("utf-8"))
-        return ": length %d, caret %d, sum %016x" % (self.length(), self.caret(), fnv(self.store))
+        return ": length %d, caret %d, mark %s, sum %016x" % (self.length(), self.caret(), self.mark, fnv(self.store))
 
     def shown(self):
         return '%s, "%s"' % (self.state(), self.text())
@@ -305,24 +312,52 @@ def fields():
         assert f.length() == 0
 
 
+def draught(spaces):
+    f = Field()
+    for ch in " " * spaces + "7.4":
+        f = f.insert(ord(ch))
+    assert metres(f.text()) == (0, 740)
+    return f
+
+
+def marks():
+    for mark in ("confirmed", "untouched"):
+        heading("Every edit of %s %s text" % ("an" if mark == "untouched" else "a", mark))
+        for spaces, n in [(0, 0), (0, 1), (0, 3), (61, 0), (61, 62), (61, 64)]:
+            f = at(draught(spaces), n).marked(mark)
+            for name in EDITS:
+                edit(f, name)
+            insertion(f, ord("5"))
+            insertion(f, 0xD800)
+
+
 def asked():
-    heading("Fields that break the rules, and one that keeps them")
-    f = with_four(Field(), 0)
-    for name, length, caret in [
-        ("sound", 10, 3),
-        ("length above 64", 65, 3),
-        ("caret past the length", 10, 11),
-        ("caret inside a character", 10, 2),
-        ("text cut short", 9, 3),
+    heading("Fields that break the rules, and some that keep them")
+    four = with_four(Field(), 0)
+    for name, f, length, caret, mark in [
+        ("sound", four, 10, 3, "typed"),
+        ("length above 64", four, 65, 3, "typed"),
+        ("caret past the length", four, 10, 11, "typed"),
+        ("caret inside a character", four, 10, 2, "typed"),
+        ("text cut short", four, 9, 3, "typed"),
+        ("confirmed metres", draught(0), 3, 3, "confirmed"),
+        ("confirmed with no text", Field(), 0, 0, "confirmed"),
+        ("confirmed text that is no metres", four, 10, 10, "confirmed"),
     ]:
-        whole = length <= 64 and caret <= length and decoded(f.store[:length]) is not None
-        if whole and decoded(f.store[:caret]) is not None:
-            g = f.having(f.store[:caret].decode(), f.store[caret:length].decode())
-            left, typed = " gives 0" + g.left().state(), " gives 0" + g.insert(ord("y")).state()
+        before, text = (decoded(f.store[:n]) for n in (caret, length))
+        whole = length <= 64 and caret <= length and None not in (before, text)
+        if whole and (mark != "confirmed" or metres(text)[0] == 0):
+            g = f.having(before, text[len(before):]).marked(mark)
+            left, typed = "0" + g.left().state(), "0" + g.insert(ord("y")).state()
+            number = metres(text)[0]
         else:
-            left = typed = " gives 1: length %d, caret %d, sum %016x" % (length, caret, fnv(f.store))
-        say("%s, left%s" % (name, left))
-        say("%s, insert%s" % (name, typed))
+            left = typed = "1: length %d, caret %d, mark %s, sum %016x" % (length, caret, mark, fnv(f.store))
+            number = 1
+        for lent in ("", " when lent"):
+            say("%s, left%s gives %s" % (name, lent, left))
+        for lent in ("", " when lent"):
+            say("%s, insert%s gives %s" % (name, lent, typed))
+        say("%s, metres gives %d" % (name, number))
 
 
 # Metres and widths
@@ -505,6 +540,7 @@ boundaries()
 strings()
 sums()
 fields()
+marks()
 asked()
 readings()
 line_breaks()

@@ -5,6 +5,8 @@ pub use Rattle.std.specs.List.{find as first_field}
 use Rattle.field.specs.Fields.{empty_field, own_field}
 use Rattle.field.specs.declared.NodeId.{NodeId}
 use Rattle.field.specs.declared.Field.{Field}
+use Rattle.field.specs.declared.Mark.{Mark}
+use Rattle.field.specs.declared.Mark.TheVariants.{Untouched}
 use Rattle.arena.specs.Slots.{Slots, is_live, is_id}
 
 -- The node's own field.
@@ -44,3 +46,12 @@ pub record Shown : Type 0 where
 
 abbrev pub no_text : Shown
 no_text = record { bytes = replicate 64 0; len = 0 }
+
+-- A text with its caret and mark.
+pub record ShownMarked : Type 0 where
+  pub shown : Shown
+  pub caret : ℕ
+  pub mark : Mark
+
+abbrev pub no_marked : ShownMarked
+no_marked = record { shown = no_text; caret = 0; mark = Untouched }

@@ -1,7 +1,7 @@
 // The eight fields and their owners: whose a field is, which are free, and what a dead owner leaves.
-ghost use Rattle.std.specs.Prelude.{◌≡◌, not, drop, if◌then◌else◌, slice_index_or, slice_set, Some};
+ghost use Rattle.std.specs.Prelude.{◌≡◌, not, drop, if◌then◌else◌, map, slice_index_or, slice_set, Some};
 ghost use Rattle.field.specs.declared.Field.{Field};
-ghost use Rattle.field.specs.Fields.{empty_field, field_ok};
+ghost use Rattle.field.specs.Fields.{empty_field, field_ok, unconfirmed};
 ghost use Rattle.arithmetic.specs.Tests.{all};
 ghost use Rattle.arena.specs.Fields.{field_of, owns, owner_dead, reclaimed, vacant, claimed};
 ghost use Rattle.arena.specs.Support.Places.{place_of, field_at};
@@ -82,6 +82,16 @@ pub fn reclaim(limit: u32, slots: [Slot; 128], mut fields: [Field; 8]) -> [Field
 {
     for f in fields.iter_mut() {
         *f = reclaim_one(limit, slots, *f);
+    }
+    fields
+}
+
+// The fields for the next ship: none is confirmed any more, those of dead owners neither.
+pub fn unconfirmed(mut fields: [Field; 8]) -> [Field; 8]
+    ensures { result ≡ map unconfirmed fields }
+{
+    for f in fields.iter_mut() {
+        *f = f.unconfirmed();
     }
     fields
 }

@@ -1,12 +1,17 @@
--- Document 01, "The history of demand 3". It is fed the new tree's start and limit and each call with its arguments, and of the answers only the id
--- that an accepted insert gives. Press, focus and the field of a key are names: a name is made at each accepted insert and used once.
+-- Document 01, "The history of demand 3", with wishes 2 and 6 of document 02. It is fed the new tree's start and limit and each call with its
+-- arguments, and of the answers only the id that an accepted insert gives. Press, focus and the field of a key are names: a name is made at each
+-- accepted insert and used once.
 use Rattle.boxes.specs.declared.Pixel.{Pixel}
 use Rattle.std.specs.Prelude.{ℕ, ◌+◌, ◌-◌, Bool, true, false, ◌&&◌, ◌||◌, not, cond, List, [], ◌∷◌, ◌++◌, ltb, pos, length, get_or, take, replicate, None, Option, Some}
 use Rattle.text.specs.Refusal.{Answer, accepted, refused, number_of}
 use Rattle.text.specs.declared.refusal.Refusal.TheVariants.{Missing, Full, Root, Foreign, Long, Fieldless}
 use Rattle.arithmetic.specs.declared.fold.StateHash.{StateHash}
-use Rattle.field.specs.Text.{Text, text, bytes_of, caret_of, typed, keyed}
+use Rattle.field.specs.Text.{Text, bytes_of, caret_of, typed, keyed, goes_in}
 use Rattle.field.specs.Metres.{metres_of}
+use Rattle.field.specs.Marks.{Marked, new_marked, takes, mark_after, next_mark}
+use Rattle.field.specs.declared.Mark.{Mark}
+use Rattle.field.specs.declared.Mark.TheVariants.{Confirmed}
+use Rattle.field.specs.Fields.{view_by, metres_of_view}
 use Rattle.field.specs.declared.NodeId.{NodeId}
 use Rattle.arithmetic.specs.Tests.{same, all}
 use Rattle.boxes.specs.Styles.{no_patch, no_rect}
@@ -25,7 +30,7 @@ use Rattle.boxes.specs.declared.UiEvent.{UiEvent}
 use Rattle.boxes.specs.declared.UiEvent.TheVariants.{PointerMoved, PointerPressed, PointerReleased, TextEntered, Edit}
 use Rattle.boxes.specs.declared.Key.{Key}
 use Rattle.boxes.specs.declared.Key.TheVariants.{Char, Op}
-use Rattle.arena.specs.Fields.{Shown, no_text}
+use Rattle.arena.specs.Fields.{Shown, no_text, ShownMarked, no_marked}
 
 -- A call of the tree with its arguments: an insertion, which alone gives an id; another call that may change the tree; a read, which cannot.
 pub data Change : Type 0 where
@@ -37,6 +42,8 @@ pub data Change : Type 0 where
   solve : Viewport → Change
   handle : UiEvent → Change
   next_output : Change
+  confirm : NodeId → Change
+  next_ship : Change
 
 pub data Question : Type 0 where
   field_text : NodeId → Question
@@ -47,6 +54,8 @@ pub data Question : Type 0 where
   first_child : NodeId → Question
   next_sibling : NodeId → Question
   absorb : StateHash → Question
+  confirmed_metres : NodeId → Question
+  marked_text : NodeId → Question
 
 pub data Call : Type 0 where
   insert : NodeId → Call
@@ -113,9 +122,9 @@ field_count nil = 0
 field_count (node i g x cs sib) = bit (has_field x) + (field_count cs + field_count sib)
 
 -- What reads answer of an id: of a live node what the history has of it.
-abbrev pub of_text : {A : Type 0} → A → (Text → Answer A) → Option Text → Answer A
-of_text none read None = refused Fieldless none
-of_text none read (Some t) = read t
+abbrev pub of_marked : {A : Type 0} → A → (Marked → Answer A) → Option Marked → Answer A
+of_marked none read None = refused Fieldless none
+of_marked none read (Some e) = read e
 
 abbrev pub of_node : {A : Type 0} → A → (Info → Answer A) → Option Info → Answer A
 of_node none read None = refused Missing none
@@ -124,14 +133,28 @@ of_node none read (Some x) = read x
 abbrev pub padded : Text → Shown
 padded t = record { bytes = bytes_of t ++ replicate (64 - length (bytes_of t)) 0; len = length (bytes_of t) }
 
+-- A read of the node's field, by its text and mark.
+abbrev pub field_said : {A : Type 0} → History → NodeId → A → (Marked → Answer A) → Answer A
+field_said h d none read = of_node none (λ x. of_marked none read x.marked) (find d h.tree)
+
 unfoldable pub text_said : History → NodeId → Answer Shown
-text_said h d = of_node no_text (λ x. of_text no_text (λ t. accepted (padded t)) x.text) (find d h.tree)
+text_said h d = field_said h d no_text (λ e. accepted (padded e.text))
 
 unfoldable pub caret_said : History → NodeId → Answer ℕ
-caret_said h d = of_node 0 (λ x. of_text 0 (λ t. accepted (caret_of t)) x.text) (find d h.tree)
+caret_said h d = field_said h d 0 (λ e. accepted (caret_of e.text))
 
 unfoldable pub metres_said : History → NodeId → Answer ℕ
-metres_said h d = of_node 0 (λ x. of_text 0 (λ t. metres_of (bytes_of t)) x.text) (find d h.tree)
+metres_said h d = field_said h d 0 (λ e. metres_of (bytes_of e.text))
+
+-- Document 02, wish 6: the ramp's reader, and the harbour office's.
+unfoldable pub confirmed_said : History → NodeId → Answer ℕ
+confirmed_said h d = field_said h d 0 (λ e. metres_of_view (view_by e.mark (bytes_of e.text)))
+
+abbrev pub padded_marked : Marked → ShownMarked
+padded_marked e = record { shown = padded e.text; caret = caret_of e.text; mark = e.mark }
+
+unfoldable pub marked_said : History → NodeId → Answer ShownMarked
+marked_said h d = field_said h d no_marked (λ e. accepted (padded_marked e))
 
 unfoldable pub rect_said : History → NodeId → Answer Rect
 rect_said h d = of_node no_rect (λ x. accepted x.rect) (find d h.tree)
@@ -163,6 +186,8 @@ refusal_of_change h (make_field d) = refusal_of_field h (find d h.tree)
 refusal_of_change h (solve v) = 0
 refusal_of_change h (handle e) = 0
 refusal_of_change h next_output = 0
+refusal_of_change h (confirm d) = (metres_said h d).number
+refusal_of_change h next_ship = 0
 
 abbrev pub refusal_of_question : History → Question → ℕ
 refusal_of_question h (field_text d) = (text_said h d).number
@@ -173,6 +198,8 @@ refusal_of_question h (live d) = (live_said h d).number
 refusal_of_question h (first_child d) = (first_said h d).number
 refusal_of_question h (next_sibling d) = (next_said h d).number
 refusal_of_question h (absorb s) = 0
+refusal_of_question h (confirmed_metres d) = (confirmed_said h d).number
+refusal_of_question h (marked_text d) = (marked_said h d).number
 
 unfoldable pub refusal_of : History → Call → ℕ
 refusal_of h (insert d) = unless (has h d) (number_of Missing) (unless (ltb (size h.tree) h.limit) (number_of Full) 0)
@@ -204,12 +231,26 @@ abbrev pub key_text : Key → Text → Text
 key_text (Char c) t = typed c t
 key_text (Op op) t = keyed op t
 
-abbrev pub map_maybe : (Text → Text) → Option Text → Option Text
+-- The key changes the text: it puts a character in, or takes one away.
+abbrev pub key_changes : Key → Text → Bool
+key_changes (Char c) t = goes_in c t
+key_changes (Op op) t = takes op t
+
+abbrev pub key_marked : Key → Marked → Marked
+key_marked key e = record { text = key_text key e.text; mark = mark_after (key_changes key e.text) e.mark }
+
+abbrev pub marked_as : Mark → Marked → Marked
+marked_as mark' e = record { text = e.text; mark = mark' }
+
+abbrev pub map_maybe : (Marked → Marked) → Option Marked → Option Marked
 map_maybe f None = None
-map_maybe f (Some t) = Some (f t)
+map_maybe f (Some e) = Some (f e)
+
+abbrev pub refilled : (Marked → Marked) → Info → Info
+refilled f x = with_field x (map_maybe f x.marked)
 
 abbrev pub typed_into : History → Key → History
-typed_into h key = with_tree h (change_named h.input.focus (λ x. with_field x (map_maybe (key_text key) x.text)) h.tree) h.styling.dirty
+typed_into h key = with_tree h (change_named h.input.focus (refilled (key_marked key)) h.tree) h.styling.dirty
 
 -- An event before the bits are refreshed.
 abbrev pub after_event : History → UiEvent → History
@@ -226,9 +267,9 @@ grown h parent new =
     let child = node new.index new.generation (new_info (length h.named)) nil nil in
     with_names (with_tree h (set_kids_of parent (app (kids_of parent h.tree) child) h.tree) true) (h.named ++ new ∷ [])
 
-abbrev pub keep_text : Option Text → Option Text
-keep_text None = Some (text [] [])
-keep_text (Some t) = Some t
+abbrev pub keep_marked : Option Marked → Option Marked
+keep_marked None = Some new_marked
+keep_marked (Some e) = Some e
 
 -- What an accepted call makes of the history; `new` is the id that an insertion gave.
 abbrev pub after_change : History → Change → History
@@ -241,12 +282,14 @@ after_change h (set_state_table d table) =
 after_change h (set_patch_pool patches count) =
     with_styling h (map_f (λ i g x. bare x) h.tree)
     (record { pool = take count patches; viewport = h.styling.viewport; dirty = h.styling.dirty || any_f (λ i g x. not (same x.applied no_patch)) h.tree })
-after_change h (make_field d) = with_tree h (change_of d (λ x. with_field x (keep_text x.text)) h.tree) h.styling.dirty
+after_change h (make_field d) = with_tree h (change_of d (λ x. with_field x (keep_marked x.marked)) h.tree) h.styling.dirty
 after_change h (solve v) =
     cond (not h.styling.dirty && same_view h.styling.viewport v) h
     (with_styling h (place_f h.tree (view_rect v ∷ [])) (record { pool = h.styling.pool; viewport = v; dirty = false }))
 after_change h (handle e) = refresh (after_event h e)
 after_change h next_output = h
+after_change h (confirm d) = with_tree h (change_of d (refilled (marked_as Confirmed)) h.tree) h.styling.dirty
+after_change h next_ship = with_tree h (map_f (λ i g x. refilled (λ e. marked_as (next_mark e.mark) e) x) h.tree) h.styling.dirty
 
 unfoldable pub accept : History → Call → NodeId → History
 accept h (insert d) new = grown h d new

@@ -1,6 +1,6 @@
 -- Document 01, the history: what is known of a node, and what the calls make of it, by structural recursion over the nodes alone.
 use Rattle.std.specs.Prelude.{ℕ, Bool, true, false, ◌&&◌, ◌||◌, not, cond, List, [], ◌∷◌, Option, None, Some}
-use Rattle.field.specs.Text.{Text}
+use Rattle.field.specs.Marks.{Marked}
 use Rattle.field.specs.declared.NodeId.{NodeId}
 use Rattle.arithmetic.specs.Tests.{same}
 use Rattle.boxes.specs.Styles.{no_patch, no_rect, fresh_style, fresh_table}
@@ -12,7 +12,7 @@ use Rattle.boxes.specs.declared.Rect.{Rect}
 use Rattle.boxes.specs.declared.StatePatch.{StatePatch}
 use Rattle.boxes.specs.declared.Pixel.{Pixel}
 
--- A node's name, base style, table, worn patch, bits, worn style and box, and its text if it has a field.
+-- A node's name, base style, table, worn patch, bits, worn style and box, and the text and mark of its field if it has one.
 pub record Info : Type 0 where
   pub name : ℕ
   pub base : Style
@@ -21,20 +21,20 @@ pub record Info : Type 0 where
   pub bits : ℕ
   pub style : Style
   pub rect : Rect
-  pub text : Option Text
+  pub marked : Option Marked
 
 abbrev pub new_info : ℕ → Info
-new_info m = record { name = m; base = fresh_style; table = fresh_table; applied = no_patch; bits = 0; style = fresh_style; rect = no_rect; text = None }
+new_info m = record { name = m; base = fresh_style; table = fresh_table; applied = no_patch; bits = 0; style = fresh_style; rect = no_rect; marked = None }
 
 -- A node with some of it changed.
 abbrev pub dressed : Info → Style → List ℕ → ℕ → ℕ → Style → Info
-dressed x base' table' applied' bits' style' = record { name = x.name; base = base'; table = table'; applied = applied'; bits = bits'; style = style'; rect = x.rect; text = x.text }
+dressed x base' table' applied' bits' style' = record { name = x.name; base = base'; table = table'; applied = applied'; bits = bits'; style = style'; rect = x.rect; marked = x.marked }
 
 abbrev pub with_box : Info → Rect → Info
-with_box x r = record { name = x.name; base = x.base; table = x.table; applied = x.applied; bits = x.bits; style = x.style; rect = r; text = x.text }
+with_box x r = record { name = x.name; base = x.base; table = x.table; applied = x.applied; bits = x.bits; style = x.style; rect = r; marked = x.marked }
 
-abbrev pub with_field : Info → Option Text → Info
-with_field x t = record { name = x.name; base = x.base; table = x.table; applied = x.applied; bits = x.bits; style = x.style; rect = x.rect; text = t }
+abbrev pub with_field : Info → Option Marked → Info
+with_field x e = record { name = x.name; base = x.base; table = x.table; applied = x.applied; bits = x.bits; style = x.style; rect = x.rect; marked = e }
 
 -- The node that has the id, changed.
 abbrev pub change_of : NodeId → (Info → Info) → Forest Info → Forest Info
@@ -95,8 +95,8 @@ abbrev pub bit : Bool → ℕ
 bit b = cond b 1 0
 
 abbrev pub has_field : Info → Bool
-has_field x = is_just x.text
+has_field x = is_just x.marked
   where
-    is_just : Option Text → Bool
+    is_just : Option Marked → Bool
     is_just None = false
-    is_just (Some t) = true
+    is_just (Some e) = true

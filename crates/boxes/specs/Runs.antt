@@ -6,11 +6,12 @@ use Rattle.text.specs.Refusal.{Answer}
 use Rattle.field.specs.declared.NodeId.{NodeId}
 use Rattle.arena.specs.Slots.{nobody}
 use Rattle.boxes.specs.Styles.{no_state_patch}
-use Rattle.arena.specs.Fields.{Shown}
-use Rattle.boxes.specs.History.{History, Call, Question, start, refusal_of, recorded, text_said, caret_said, metres_said, rect_said, live_said, first_said, next_said, id_named}
+use Rattle.arena.specs.Fields.{Shown, ShownMarked}
+use Rattle.field.specs.Marks.{mark_number}
+use Rattle.boxes.specs.History.{History, Call, Question, start, refusal_of, recorded, text_said, caret_said, metres_said, rect_said, live_said, first_said, next_said, confirmed_said, marked_said, id_named}
 use Rattle.boxes.specs.History.Call.{insert, change, ask}
 use Rattle.boxes.specs.History.Change.{set_patch_pool}
-use Rattle.boxes.specs.History.Question.{field_text, field_cursor, metres, rect, live, first_child, next_sibling, absorb}
+use Rattle.boxes.specs.History.Question.{field_text, field_cursor, metres, rect, live, first_child, next_sibling, absorb, confirmed_metres, marked_text}
 use Rattle.boxes.specs.declared.Direction.{Direction}
 use Rattle.boxes.specs.declared.Size.{Size}
 use Rattle.boxes.specs.declared.Align.{Align}
@@ -55,6 +56,9 @@ of_id (Some d) = pos d.index ∷ pos d.generation ∷ []
 abbrev of_shown : Shown → List ℤ
 of_shown t = pos t.len ∷ map pos (take t.len t.bytes)
 
+abbrev of_marked_text : ShownMarked → List ℤ
+of_marked_text t = of_shown t.shown ++ pos t.caret ∷ pos (mark_number t.mark) ∷ []
+
 abbrev of_rect : Rect → List ℤ
 of_rect r = r.x ∷ r.y ∷ r.width ∷ r.height ∷ []
 
@@ -67,6 +71,8 @@ questioned h (live d) = numbers_of of_bool (live_said h d)
 questioned h (first_child d) = numbers_of of_id (first_said h d)
 questioned h (next_sibling d) = numbers_of of_id (next_said h d)
 questioned h (absorb s) = []
+questioned h (confirmed_metres d) = numbers_of of_number (confirmed_said h d)
+questioned h (marked_text d) = numbers_of of_marked_text (marked_said h d)
 
 abbrev said : History → Asked → List ℤ
 said h (call (insert d)) = of_number (refusal_of h (insert d))

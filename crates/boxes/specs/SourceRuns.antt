@@ -4,8 +4,8 @@ use Rattle.std.specs.Prelude.{true, false, List, [], ◌∷◌, pos, negsuc}
 use Rattle.field.specs.declared.EditOp.TheVariants.{Backspace, Delete, Left, Right, Home, End}
 use Rattle.boxes.specs.Runs.{Run, id, style, edges, patch, pooled, gives, says, says_focus, says_pressed}
 use Rattle.boxes.specs.History.Call.{change, ask}
-use Rattle.boxes.specs.History.Change.{remove, set_style, set_state_table, make_field, solve, handle}
-use Rattle.boxes.specs.History.Question.{field_text, field_cursor, metres, rect, live, first_child, next_sibling}
+use Rattle.boxes.specs.History.Change.{remove, set_style, set_state_table, make_field, solve, handle, confirm, next_ship}
+use Rattle.boxes.specs.History.Question.{field_text, field_cursor, metres, rect, live, first_child, next_sibling, confirmed_metres, marked_text}
 use Rattle.boxes.specs.declared.UiEvent.TheVariants.{PointerMoved, PointerPressed, PointerReleased, TextEntered, Edit}
 use Rattle.boxes.specs.declared.StartKind.TheVariants.{New, AtOrigin}
 use Rattle.boxes.specs.declared.Direction.TheVariants.{Row, Column}
@@ -559,6 +559,72 @@ source_runs =
           says (change (set_style (id 0 1) (style Column Auto Auto (edges (pos 0) (pos 0) (pos 0) (pos 0)) (edges (pos 0) (pos 0) (pos 0) (pos 0)) (pos 0) 0 Center Center))) (pos 0 ∷ []) ∷
           says (change (solve (record { width = pos 19726336; height = pos 2686976 }))) (pos 0 ∷ []) ∷
           says (ask (rect (id 1 1))) (pos 0 ∷ pos 6553600 ∷ pos 655360 ∷ pos 6553600 ∷ pos 1310720 ∷ []) ∷
+          [];
+    } ∷
+    -- 14-confirmed-draughts
+    record {
+      kind = New;
+      limit = 4;
+      lines =
+          gives (id 0 1) (id 1 1) 0 ∷
+          says (change (set_style (id 1 1) (style Row (Px (pos 655360)) (Px (pos 655360)) (edges (pos 0) (pos 0) (pos 0) (pos 0)) (edges (pos 0) (pos 0) (pos 0) (pos 0)) (pos 0) 0 Start Start))) (pos 0 ∷ []) ∷
+          says (change next_ship) (pos 0 ∷ []) ∷
+          says (change (confirm (id 1 1))) (pos 8 ∷ []) ∷
+          says (ask (confirmed_metres (id 1 1))) (pos 8 ∷ pos 0 ∷ []) ∷
+          says (ask (marked_text (id 1 1))) (pos 8 ∷ pos 0 ∷ pos 0 ∷ pos 0 ∷ []) ∷
+          says (change (make_field (id 1 1))) (pos 0 ∷ []) ∷
+          says (ask (marked_text (id 1 1))) (pos 0 ∷ pos 0 ∷ pos 0 ∷ pos 0 ∷ []) ∷
+          says (ask (confirmed_metres (id 1 1))) (pos 14 ∷ pos 0 ∷ []) ∷
+          says (change (confirm (id 1 1))) (pos 9 ∷ []) ∷
+          says (change (solve (record { width = pos 13107200; height = pos 13107200 }))) (pos 0 ∷ []) ∷
+          says (change (handle (PointerMoved (pos 5) (pos 5)))) (pos 0 ∷ []) ∷
+          says (change (handle PointerPressed)) (pos 0 ∷ []) ∷
+          says (change (handle PointerReleased)) (pos 0 ∷ []) ∷
+          says (change (handle (TextEntered 55))) (pos 0 ∷ []) ∷
+          says (ask (marked_text (id 1 1))) (pos 0 ∷ pos 1 ∷ pos 55 ∷ pos 1 ∷ pos 1 ∷ []) ∷
+          says (ask (confirmed_metres (id 1 1))) (pos 14 ∷ pos 0 ∷ []) ∷
+          says (change (handle (TextEntered 44))) (pos 0 ∷ []) ∷
+          says (change (confirm (id 1 1))) (pos 10 ∷ []) ∷
+          says (change (handle (TextEntered 53))) (pos 0 ∷ []) ∷
+          says (ask (metres (id 1 1))) (pos 0 ∷ pos 750 ∷ []) ∷
+          says (change (confirm (id 1 1))) (pos 0 ∷ []) ∷
+          says (ask (confirmed_metres (id 1 1))) (pos 0 ∷ pos 750 ∷ []) ∷
+          says (change (handle (Edit Left))) (pos 0 ∷ []) ∷
+          says (change (handle (Edit Home))) (pos 0 ∷ []) ∷
+          says (change (handle (Edit Backspace))) (pos 0 ∷ []) ∷
+          says (change (handle (TextEntered 55296))) (pos 0 ∷ []) ∷
+          says (change (make_field (id 1 1))) (pos 0 ∷ []) ∷
+          says (ask (marked_text (id 1 1))) (pos 0 ∷ pos 3 ∷ pos 55 ∷ pos 44 ∷ pos 53 ∷ pos 0 ∷ pos 2 ∷ []) ∷
+          says (ask (confirmed_metres (id 1 1))) (pos 0 ∷ pos 750 ∷ []) ∷
+          says (change next_ship) (pos 0 ∷ []) ∷
+          says (ask (field_text (id 1 1))) (pos 0 ∷ pos 3 ∷ pos 55 ∷ pos 44 ∷ pos 53 ∷ []) ∷
+          says (ask (field_cursor (id 1 1))) (pos 0 ∷ pos 0 ∷ []) ∷
+          says (ask (marked_text (id 1 1))) (pos 0 ∷ pos 3 ∷ pos 55 ∷ pos 44 ∷ pos 53 ∷ pos 0 ∷ pos 0 ∷ []) ∷
+          says (ask (confirmed_metres (id 1 1))) (pos 14 ∷ pos 0 ∷ []) ∷
+          says (change (handle (Edit Delete))) (pos 0 ∷ []) ∷
+          says (ask (marked_text (id 1 1))) (pos 0 ∷ pos 2 ∷ pos 44 ∷ pos 53 ∷ pos 0 ∷ pos 1 ∷ []) ∷
+          says (ask (confirmed_metres (id 1 1))) (pos 14 ∷ pos 0 ∷ []) ∷
+          says (change (confirm (id 1 1))) (pos 10 ∷ []) ∷
+          says (change (handle (TextEntered 57))) (pos 0 ∷ []) ∷
+          says (ask (marked_text (id 1 1))) (pos 0 ∷ pos 3 ∷ pos 57 ∷ pos 44 ∷ pos 53 ∷ pos 1 ∷ pos 1 ∷ []) ∷
+          says (change next_ship) (pos 0 ∷ []) ∷
+          says (ask (marked_text (id 1 1))) (pos 0 ∷ pos 3 ∷ pos 57 ∷ pos 44 ∷ pos 53 ∷ pos 1 ∷ pos 1 ∷ []) ∷
+          says (ask (confirmed_metres (id 1 1))) (pos 14 ∷ pos 0 ∷ []) ∷
+          says (change (confirm (id 1 1))) (pos 0 ∷ []) ∷
+          says (ask (confirmed_metres (id 1 1))) (pos 0 ∷ pos 950 ∷ []) ∷
+          says (change (remove (id 1 1))) (pos 0 ∷ []) ∷
+          says (change (confirm (id 1 1))) (pos 3 ∷ []) ∷
+          says (ask (confirmed_metres (id 1 1))) (pos 3 ∷ pos 0 ∷ []) ∷
+          says (ask (marked_text (id 1 1))) (pos 3 ∷ pos 0 ∷ pos 0 ∷ pos 0 ∷ []) ∷
+          gives (id 0 1) (id 1 2) 0 ∷
+          says (change (confirm (id 1 2))) (pos 8 ∷ []) ∷
+          says (ask (confirmed_metres (id 1 2))) (pos 8 ∷ pos 0 ∷ []) ∷
+          says (ask (marked_text (id 1 2))) (pos 8 ∷ pos 0 ∷ pos 0 ∷ pos 0 ∷ []) ∷
+          says (change (make_field (id 1 2))) (pos 0 ∷ []) ∷
+          says (ask (marked_text (id 1 2))) (pos 0 ∷ pos 0 ∷ pos 0 ∷ pos 0 ∷ []) ∷
+          says (ask (confirmed_metres (id 1 2))) (pos 14 ∷ pos 0 ∷ []) ∷
+          says (change next_ship) (pos 0 ∷ []) ∷
+          says (ask (field_text (id 1 2))) (pos 0 ∷ pos 0 ∷ []) ∷
           [];
     } ∷
     []

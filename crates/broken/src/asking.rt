@@ -1,4 +1,4 @@
-// Every call of document 01 that takes a tree, asked of one tree, and what its answer comes to.
+// Every call of the documents that takes a tree, asked of one tree, and what its answer comes to.
 use crate::good;
 use crate::good::kept;
 use arithmetic::fold::StateHash;
@@ -19,6 +19,9 @@ pub(crate) enum Call {
     FieldText,
     FieldCursor,
     Metres,
+    Confirm,
+    ConfirmedMetres,
+    MarkedText,
     Rect,
     IsLive,
     FirstChild,
@@ -29,11 +32,12 @@ pub(crate) enum Call {
     HandleKey,
     NextOutput,
     Absorb,
+    NextShip,
 }
 
 impl Call {
     // The calls that name a node.
-    pub(crate) const NAMING: [Call; 12] = [
+    pub(crate) const NAMING: [Call; 15] = [
         Call::Insert,
         Call::Remove,
         Call::SetStyle,
@@ -42,6 +46,9 @@ impl Call {
         Call::FieldText,
         Call::FieldCursor,
         Call::Metres,
+        Call::Confirm,
+        Call::ConfirmedMetres,
+        Call::MarkedText,
         Call::Rect,
         Call::IsLive,
         Call::FirstChild,
@@ -49,13 +56,14 @@ impl Call {
     ];
 
     // The others.
-    pub(crate) const NAMELESS: [Call; 6] = [
+    pub(crate) const NAMELESS: [Call; 7] = [
         Call::SetPatchPool,
         Call::Solve,
         Call::HandleMove,
         Call::HandleKey,
         Call::NextOutput,
         Call::Absorb,
+        Call::NextShip,
     ];
 
     pub(crate) fn names_node(self) -> bool {
@@ -74,6 +82,9 @@ impl fmt::Display for Call {
             Call::FieldText => "field_text",
             Call::FieldCursor => "field_cursor",
             Call::Metres => "metres",
+            Call::Confirm => "confirm",
+            Call::ConfirmedMetres => "confirmed_metres",
+            Call::MarkedText => "marked_text",
             Call::Rect => "rect",
             Call::IsLive => "is_live",
             Call::FirstChild => "first_child",
@@ -84,6 +95,7 @@ impl fmt::Display for Call {
             Call::HandleKey => "handle (a key)",
             Call::NextOutput => "next_output",
             Call::Absorb => "absorb",
+            Call::NextShip => "next_ship",
         })
     }
 }
@@ -134,6 +146,9 @@ pub(crate) fn ask(u: &Ui, call: Call, d: NodeId) -> Result<(), Refused> {
         Call::FieldText => read(u, |t| t.field_text(d)),
         Call::FieldCursor => read(u, |t| t.field_cursor(d)),
         Call::Metres => read(u, |t| desk::metres(*t, d)),
+        Call::Confirm => changed(u, |t| kept(desk::confirm(*t, d), t)),
+        Call::ConfirmedMetres => read(u, |t| desk::confirmed_metres(*t, d)),
+        Call::MarkedText => read(u, |t| desk::marked_text(*t, d)),
         Call::Rect => read(u, |t| t.rect(d)),
         Call::IsLive => read(u, |t| t.is_live(d)),
         Call::FirstChild => read(u, |t| t.first_child(d)),
@@ -150,5 +165,6 @@ pub(crate) fn ask(u: &Ui, call: Call, d: NodeId) -> Result<(), Refused> {
         ),
         Call::NextOutput => changed(u, |t| kept(desk::next_output(*t), t)),
         Call::Absorb => read(u, |t| desk::absorb(*t, StateHash::new())),
+        Call::NextShip => changed(u, |t| kept(desk::next_ship(*t), t)),
     }
 }

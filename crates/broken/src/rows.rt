@@ -2,7 +2,7 @@
 use crate::asking::{Call, Refused, ask};
 use crate::good::{Base, id};
 use damage::{done, same};
-use field::NodeId;
+use field::{Mark, NodeId};
 use std::io;
 use text::refusal::Refusal;
 use tree::Ui;
@@ -365,6 +365,12 @@ fn text(u: &mut Ui, start: [u8; 2], len: u8, caret: u8) {
     field.cursor = caret;
 }
 
+// Field 1 with as much of the text "7." as the length says, and a mark.
+fn marked(u: &mut Ui, len: u8, mark: Mark) {
+    text(u, [55, 46], len, 0);
+    u.fields[1].mark = mark;
+}
+
 pub(crate) fn fields(rt: &impl Print) -> io::Result<()> {
     grown(
         rt,
@@ -395,5 +401,17 @@ pub(crate) fn fields(rt: &impl Print) -> io::Result<()> {
         "caret past the length",
         |u| text(u, [55, 46], 1, 2),
         |u| text(u, [55, 46], 1, 1),
+    )?;
+    grown(
+        rt,
+        "confirmed text that is no metres",
+        |u| marked(u, 2, Mark::Confirmed),
+        |u| marked(u, 2, Mark::Typed),
+    )?;
+    grown(
+        rt,
+        "confirmed with no text",
+        |u| marked(u, 0, Mark::Confirmed),
+        |u| marked(u, 1, Mark::Confirmed),
     )
 }

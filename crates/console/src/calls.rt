@@ -29,6 +29,8 @@ pub enum Reading {
     Text(NodeId),
     Cursor(NodeId),
     Metres(NodeId),
+    ConfirmedMetres(NodeId),
+    MarkedText(NodeId),
     Rect(NodeId),
     Live(NodeId),
     First(NodeId),
@@ -49,6 +51,8 @@ pub enum Change {
     Table(NodeId, [u16; 16]),
     Pool,
     Field(NodeId),
+    Confirm(NodeId),
+    NextShip,
     Solve(Viewport),
     Event(UiEvent),
 }
@@ -76,6 +80,8 @@ fn reading_of(words: &[&[u8]]) -> Option<Reading> {
         [b"text", node @ ..] => id(node).map(Reading::Text),
         [b"cursor", node @ ..] => id(node).map(Reading::Cursor),
         [b"metres", node @ ..] => id(node).map(Reading::Metres),
+        [b"ramp", node @ ..] => id(node).map(Reading::ConfirmedMetres),
+        [b"office", node @ ..] => id(node).map(Reading::MarkedText),
         [b"rect", node @ ..] => id(node).map(Reading::Rect),
         [b"live", node @ ..] => id(node).map(Reading::Live),
         [b"first", node @ ..] => id(node).map(Reading::First),
@@ -141,6 +147,8 @@ fn change_of(words: &[&[u8]]) -> Option<Change> {
         }
         [b"pool"] => Some(Change::Pool),
         [b"field", node @ ..] => id(node).map(Change::Field),
+        [b"confirm", node @ ..] => id(node).map(Change::Confirm),
+        [b"ship"] => Some(Change::NextShip),
         [b"solve", width, height] => Some(Change::Solve(Viewport {
             width: number(width)?,
             height: number(height)?,

@@ -137,6 +137,11 @@ fn field(h: StateHash, f: &Field) -> StateHash {
         .absorb_bytes(text)
 }
 
+// Paragraph 8: the marks, behind all the fields.
+fn mark(h: StateHash, f: &Field) -> StateHash {
+    h.absorb_u32(f.mark as u32)
+}
+
 // The digest of the whole tree.
 pub(crate) fn state(u: &Ui) -> u64 {
     let remembered = interaction(counts(StateHash::new(), u), u.interaction);
@@ -148,5 +153,6 @@ pub(crate) fn state(u: &Ui) -> u64 {
     );
     let pool = listed(waiting, &u.patches, u.patch_count, |h, p| patch(h, *p));
     let stated = listed(pool, &u.stated, u.stated_count, |h, k| h.absorb_u32(*k));
-    u.fields.iter().fold(slots(stated, u), field).finish()
+    let fields = u.fields.iter().fold(slots(stated, u), field);
+    u.fields.iter().fold(fields, mark).finish()
 }

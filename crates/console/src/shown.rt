@@ -1,4 +1,5 @@
 // How the values of an answer are written.
+use desk::MarkedText;
 use field::NodeId;
 use std::fmt;
 use std::fmt::Display;
@@ -45,6 +46,21 @@ impl Display for Typed {
             write!(f, "{b:02x}")?;
         }
         Ok(())
+    }
+}
+
+// The same, the caret, and the number of the mark.
+#[derive(Drop)]
+pub struct Marked(pub MarkedText);
+
+impl Display for Marked {
+    fn fmt<W: fmt::Write>(&self, f: &mut fmt::Formatter<W>) -> fmt::Result {
+        let t = self.0;
+        let text = Typed(FieldText {
+            bytes: t.bytes,
+            len: t.len,
+        });
+        write!(f, "{text} {} {}", t.cursor, t.mark as u32)
     }
 }
 

@@ -1,6 +1,6 @@
 // What a call of the tree or the desk does, and what it writes. A tree is 60 KB, so that few are held at once.
 use crate::calls::{Change, Reading};
-use crate::shown::{Node, Place, Sum, Typed};
+use crate::shown::{Marked, Node, Place, Sum, Typed};
 use crate::{digest, waiting};
 use field::NodeId;
 use report::shown::YesNo;
@@ -40,6 +40,8 @@ pub(crate) fn asked(out: &mut impl Write, tree: &Ui, reading: Reading) -> io::Re
         Reading::Text(d) => answer(out, tree.field_text(d).map(Typed), "0 -"),
         Reading::Cursor(d) => answer(out, tree.field_cursor(d), "0"),
         Reading::Metres(d) => answer(out, desk::metres(*tree, d), "0"),
+        Reading::ConfirmedMetres(d) => answer(out, desk::confirmed_metres(*tree, d), "0"),
+        Reading::MarkedText(d) => answer(out, desk::marked_text(*tree, d).map(Marked), "0 - 0 0"),
         Reading::Rect(d) => answer(out, tree.rect(d).map(Place), "0 0 0 0"),
         Reading::Live(d) => answer(out, tree.is_live(d).map(YesNo), "no"),
         Reading::First(d) => answer(out, tree.first_child(d).map(Node), "0 0"),
@@ -88,6 +90,8 @@ pub(crate) fn changed(c: &mut Changed, change: Change, patches: &mut Vec<StatePa
             patches.clear();
         }
         Change::Field(d) => apart(c, |c| *c = c.tree.make_field(d)),
+        Change::Confirm(d) => apart(c, |c| *c = desk::confirm(c.tree, d)),
+        Change::NextShip => apart(c, |c| *c = desk::next_ship(c.tree)),
         Change::Solve(view) => apart(c, |c| *c = c.tree.solve(view)),
         Change::Event(e) => apart(c, |c| *c = desk::handle(c.tree, e)),
     }

@@ -5,7 +5,8 @@ use mathlib.Core.Bool.{Bool, true, false, not, cond}
 use Prim.Native.Nat.{ℕ, suc}
 use Rattle.text.specs.Refusal.{number_of}
 use Rattle.text.specs.declared.refusal.Refusal.{Refusal}
-use Rattle.text.specs.declared.refusal.Refusal.TheVariants.{Broken, Large, Missing, Full, Root, Foreign, Long, Fieldless, Empty, Unread, IllFormed, Wide, Short}
+use Rattle.text.specs.declared.refusal.Refusal.TheVariants.{Missing}
+use Rattle.text.proofs.Refusals.{no_word_is_0}
 use Rattle.field.specs.declared.NodeId.{NodeId}
 use Rattle.arithmetic.specs.Tests.{same}
 use Rattle.tree.specs.Slots.{is_live}
@@ -30,22 +31,6 @@ pub record Kept (k : ℕ) (u : Ui) (h : History) (c : Call) : Type 0 where
 pub record AsSaid (k : ℕ) (h : History) {A : Type 0} (o : Outcome A) (n : ℕ) (f : A → History) : Type 0 where
   pub number_is : o.answer.number ≡ n
   pub goes_on : Inv (suc k) o.next (cond (same n 0) (f o.answer.value) h)
-
-no_word_is_0 : (word : Refusal) → same (number_of word) 0 ≡ false
-unfolding same
-no_word_is_0 Broken = refl
-no_word_is_0 Large = refl
-no_word_is_0 Missing = refl
-no_word_is_0 Full = refl
-no_word_is_0 Root = refl
-no_word_is_0 Foreign = refl
-no_word_is_0 Long = refl
-no_word_is_0 Fieldless = refl
-no_word_is_0 Empty = refl
-no_word_is_0 Unread = refl
-no_word_is_0 IllFormed = refl
-no_word_is_0 Wide = refl
-no_word_is_0 Short = refl
 
 module _ {k : ℕ} {u : Ui} {h : History} (v : Inv k u h) where
   pub sound : broken u ≡ false

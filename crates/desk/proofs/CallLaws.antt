@@ -20,13 +20,14 @@ use Rattle.tree.specs.Calls as tree
 use Rattle.tree.specs.Calls.{Outcome, gives, refuses, guarded, on_live, of_field, on_field, shown, take_vacant, take_field}
 use Rattle.tree.specs.declared.Ui.{Ui}
 use Rattle.desk.specs.Events as desk
+use Rattle.desk.specs.Marks as marks
 use Rattle.desk.specs.Events.{take_oldest}
 use Rattle.tree.specs.History.{Call, Change}
 use Rattle.tree.specs.History.Call.{insert, change, ask}
-use Rattle.tree.specs.History.Change.{remove, set_style, set_state_table, set_patch_pool, make_field, solve, handle, next_output}
+use Rattle.tree.specs.History.Change.{remove, set_style, set_state_table, set_patch_pool, make_field, solve, handle, next_output, confirm, next_ship}
 use Rattle.desk.specs.Demand3.{step, change_step}
 use Rattle.desk.specs.CallLaws.{ARefusedCallChangesNothing, ABrokenTreeIsRefused, OnlyABrokenTreeIsRefusedBy1}
-use Rattle.desk.proofs.FairCalls.{Fair, FairCall, Behind, accepted, refused, either, guarded_is_fair, live_is_fair, question_is_fair}
+use Rattle.desk.proofs.FairCalls.{Fair, FairCall, Behind, accepted, refused, either, guarded_is_fair, live_is_fair, confirm_is_fair, question_is_fair}
 
 module _ (u : Ui) where
   taken : (d : NodeId) (m : Option Field) → Behind u (take_field u d m)
@@ -46,7 +47,7 @@ module _ (u : Ui) where
   insert_is_fair d = live_is_fair u d nobody (either u (same u.free NIL) (refused u Full (λ e. omega arith)) (accepted u))
 
   change_is_fair : (c : Change) → Fair u (change_step u c).number (change_step u c).next
-  unfolding tree.remove tree.set_style tree.set_state_table tree.set_patch_pool tree.make_field tree.solve desk.handle desk.next_output
+  unfolding tree.remove tree.set_style tree.set_state_table tree.set_patch_pool tree.make_field tree.solve desk.handle desk.next_output marks.next_ship
   change_is_fair (remove d) = live_is_fair u {A = ℕ} d 0 (either u (same d.index 0) (refused u Root (λ e. omega arith)) (accepted u))
   change_is_fair (set_style d s) = live_is_fair u {A = ℕ} d 0 (accepted u)
   change_is_fair (set_state_table d table) = live_is_fair u {A = ℕ} d 0 (either u (all (in_pool u.patch_count) table) (accepted u) (refused u Foreign (λ e. omega arith)))
@@ -55,6 +56,8 @@ module _ (u : Ui) where
   change_is_fair (solve v) = guarded_is_fair u {A = ℕ} 0 (either u (not u.dirty && same_view u.solved_for v) (accepted u) (accepted u))
   change_is_fair (handle e) = guarded_is_fair u {A = ℕ} 0 (accepted u)
   change_is_fair next_output = guarded_is_fair u None (oldest (waiting_of u))
+  change_is_fair (confirm d) = confirm_is_fair u d
+  change_is_fair next_ship = guarded_is_fair u {A = ℕ} 0 (accepted u)
 
   call_is_fair : (c : Call) → Fair u (step u c).number (step u c).next
   unfolding step

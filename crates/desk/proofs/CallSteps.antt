@@ -30,7 +30,7 @@ use Rattle.tree.specs.Types.{Style, StatePatch, Viewport}
 use Rattle.arithmetic.proofs.TestLaws.{bool_cases, same_yes, same_no, eq_cases, δ-other}
 use Rattle.tree.proofs.ForestLaws.{cnt, wt}
 use Rattle.tree.proofs.Ids.{root_is_live, live_id, free_cases, Known, find_known, find_nothing}
-use Rattle.tree.proofs.Relation.{Links, Styled, text_in}
+use Rattle.tree.proofs.Relation.{Links, Styled, marked_in}
 use Rattle.tree.proofs.StylingParts.{style_keeps_styling, table_keeps_styling, table_dirties, pool_keeps_styling, pool_dirties, pass_keeps_styling}
 use Rattle.tree.proofs.InsertParts.{insert_keeps_links, insert_keeps_styling, insert_keeps_texts, insert_keeps_naming, with_child, an_insertion_raises_one_epoch, no_node_has_the_slot_taken}
 use Rattle.tree.proofs.RemoveParts.{remove_keeps_links, remove_keeps_naming, remove_keeps_styling, remove_keeps_texts, a_removal_keeps_every_epoch}
@@ -38,9 +38,9 @@ use Rattle.tree.proofs.FieldLaws.{a_field_is_vacant_or_every_field_is_a_live_nod
 use Rattle.tree.proofs.FieldParts.{a_field_stays, a_field_is_made}
 use Rattle.desk.specs.Events as desk
 use Rattle.desk.specs.Events.{handled, hit_of, applied_event, take_oldest}
-use Rattle.tree.specs.History.{History, Call, Change, has, refusal_of, refusal_of_field, refusal_of_change, after_change, accept, recorded, with_styling, with_tree, grown, keep_text, field_count, root_id, after_event}
+use Rattle.tree.specs.History.{History, Call, Change, has, refusal_of, refusal_of_field, refusal_of_change, after_change, accept, recorded, with_styling, with_tree, grown, keep_marked, field_count, root_id, after_event}
 use Rattle.tree.specs.History.Call.{insert, change, ask}
-use Rattle.tree.specs.History.Change.{remove, set_style, set_state_table, set_patch_pool, make_field, solve, handle, next_output}
+use Rattle.tree.specs.History.Change.{remove, set_style, set_state_table, set_patch_pool, make_field, solve, handle, next_output, confirm, next_ship}
 use Rattle.desk.specs.Demand3.{step, Machine, MachineChange}
 use Rattle.boxes.specs.declared.UiEvent.{UiEvent}
 use Rattle.boxes.specs.declared.UiEvent.TheVariants.{PointerMoved, PointerPressed, PointerReleased, TextEntered, Edit}
@@ -51,6 +51,7 @@ use Rattle.desk.proofs.ReadSteps.{asks}
 use Rattle.desk.proofs.RefreshSteps.{refresh_agrees}
 use Rattle.desk.proofs.PointerSteps.{move_agrees, press_agrees, release_agrees, waiting_length}
 use Rattle.desk.proofs.KeySteps.{key_agrees}
+use Rattle.desk.proofs.MarkSteps.{confirm_as_said, next_ship_as_said}
 
 -- ---- outputs and events
 
@@ -227,18 +228,18 @@ module _ {k : ℕ} {u : Ui} {h : History} (v : Inv k u h) where
   field_agrees : (d : NodeId) (hd : has h d ≡ true) (f : Field) → field_of d u.fields ≡ None → first_field vacant (reclaimed (limit_of u) u.slots u.fields) ≡ Some f
       → Inv k (with_fields u (claimed d (reclaimed (limit_of u) u.slots u.fields))) (after_change h (make_field d))
   field_agrees d hd f none some =
-      with_texts v (λ i g x. has_both d i g) (λ x. keep_text x.text) _
-      (a_field_is_made k u h.tree v.nodes.links v.nodes.texts d hd keep_text refl (λ z. refl) f none some)
+      with_texts v (λ i g x. has_both d i g) (λ x. keep_marked x.marked) _
+      (a_field_is_made k u h.tree v.nodes.links v.nodes.texts d hd keep_marked refl (λ z. refl) f none some)
 
   -- the node has a field, takes a vacant one, or there is none
   on_a_node : (d : NodeId) (hd : has h d ≡ true) (w : Known (OwnText u.fields) d h.tree) (m : Option Field) → field_of d u.fields ≡ m
       → AsSaid k h (take_field u d m) (refusal_of_field h (Some w.load)) (λ _. after_change h (make_field d))
   on_a_node d hd w (Some f) q =
-      let hf : has_field w.load ≡ true = a_node_with_a_text_has_a_field w.load (Some f) (w.holds ∙ ap text_in q) in
+      let hf : has_field w.load ≡ true = a_node_with_a_text_has_a_field w.load (Some f) (w.holds ∙ ap marked_in q) in
       rw hf (accepted_as_said v u 0 _
-      (subst (λ (t : Forest Info). Inv (suc k) u (with_tree h t h.styling.dirty)) (sym (a_field_stays k u h.tree v.nodes.links v.nodes.texts d hd keep_text refl (λ z. refl) f q)) (inv_after v)))
+      (subst (λ (t : Forest Info). Inv (suc k) u (with_tree h t h.styling.dirty)) (sym (a_field_stays k u h.tree v.nodes.links v.nodes.texts d hd keep_marked refl (λ z. refl) f q)) (inv_after v)))
   on_a_node d hd w None q =
-      let hf : has_field w.load ≡ false = a_node_with_a_text_has_a_field w.load None (w.holds ∙ ap text_in q) in
+      let hf : has_field w.load ≡ false = a_node_with_a_text_has_a_field w.load None (w.holds ∙ ap marked_in q) in
       let c = count_is_a_sum h.tree in
       let n = v.nodes.texts.eight in
       a_field_is_vacant_or_every_field_is_a_live_nodes v.nodes.links.rel u.fields v.nodes.texts.owners v.nodes.texts.texts
@@ -294,6 +295,8 @@ module _ {k : ℕ} {u : Ui} {h : History} (v : Inv k u h) where
   every_change small (solve w) m = change_kept v (solve w) (pass_as_said w) refl
   every_change small (handle e) m = change_kept v (handle e) (event_as_said v e) refl
   every_change small next_output m = change_kept v next_output (output_as_said v) refl
+  every_change small (confirm d) m = change_kept v (confirm d) (confirm_as_said v d) refl
+  every_change small next_ship m = change_kept v next_ship (next_ship_as_said v) refl
 
   pub every_call : k < 2 ^ 63 → (c : Call) → Machine c → Kept k u h c
   unfolding step accept recorded

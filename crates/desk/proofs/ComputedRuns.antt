@@ -5,7 +5,7 @@ use lib.IntN.{pos, negsuc}
 use Rattle.arithmetic.specs.Scalar.{stop, add_sat, sub_sat, gap_times, max_of, unsigned_of}
 use Rattle.arithmetic.specs.Fold.{empty_hash, fnv_byte, fold_bytes, low_bytes, absorbed}
 use Rattle.text.specs.Reader.{run_from, is_utf8}
-use Rattle.field.specs.Fields.{empty_field, in_range, field_ok}
+use Rattle.field.specs.Fields.{empty_field, in_range, text_ok, mark_ok, field_ok}
 use Rattle.arithmetic.specs.Tests.{same, δ}
 use Rattle.tree.specs.Trees.{with_nodes, with_styles, with_stated, with_pass, with_interaction, with_waiting}
 use Rattle.tree.specs.Slots as tree-Slots
@@ -31,7 +31,7 @@ use Rattle.boxes.specs.declared.StartKind.TheVariants.{New, AtOrigin}
 
 -- The definitions that a run computes with: to unfold this one is to unfold them all.
 computing : Unit {0}
-unfolding stop add_sat sub_sat gap_times max_of unsigned_of fnv_byte fold_bytes low_bytes absorbed run_from is_utf8 empty_field in_range field_ok same δ with_styles with_stated with_pass with_interaction with_waiting at is_live chain kids_at order layout_at state_at entry_of in_pool wear bits_of bits_at wear_all live_slot bearing refreshed outer summed content want offset total boxes place measure_at measure_all set_rects arrange_at arrange_all passed holds last_of descend holds_at hit_at kids_well node_well free_well each_once links_well linked state_well distinct owners_well broken guarded on_live new_slot new_slots fresh new_tree with_nodes put tree-Slots.change link_after link_last insert_at tree-Calls.insert first_pointer tree-Calls.solve activated activate hit_of handled desk-Events.handle desk-Events.absorb step
+unfolding stop add_sat sub_sat gap_times max_of unsigned_of fnv_byte fold_bytes low_bytes absorbed run_from is_utf8 empty_field in_range text_ok mark_ok field_ok same δ with_styles with_stated with_pass with_interaction with_waiting at is_live chain kids_at order layout_at state_at entry_of in_pool wear bits_of bits_at wear_all live_slot bearing refreshed outer summed content want offset total boxes place measure_at measure_all set_rects arrange_at arrange_all passed holds last_of descend holds_at hit_at kids_well node_well free_well each_once links_well linked state_well distinct owners_well broken guarded on_live new_slot new_slots fresh new_tree with_nodes put tree-Slots.change link_after link_last insert_at tree-Calls.insert first_pointer tree-Calls.solve activated activate hit_of handled desk-Events.handle desk-Events.absorb step
 computing = tt
 
 -- The root of a tree of one node is pressed and released, twice; or the pointer leaves it before the release.

@@ -19,7 +19,7 @@ use Rattle.tree.proofs.Starts.{start_root_generation}
 use Rattle.tree.proofs.StartParts.{start_has_links, start_has_names, start_has_styling, start_has_a_pool, start_has_texts, start_has_a_queue}
 use Rattle.tree.specs.History.{History, Call, Change, limit_from, start, refusal_of, after_change, accept, recorded, grown, refresh, after_event}
 use Rattle.tree.specs.History.Call.{insert, change, ask}
-use Rattle.tree.specs.History.Change.{remove, set_style, set_state_table, set_patch_pool, make_field, solve, handle, next_output}
+use Rattle.tree.specs.History.Change.{remove, set_style, set_state_table, set_patch_pool, make_field, solve, handle, next_output, confirm, next_ship}
 use Rattle.desk.specs.Demand3.{step, run, numbers, feed, id_given, given, Machines, follow, refusals, Others, Distinct, HoldsFrom, Demand3}
 use Rattle.boxes.specs.declared.UiEvent.{UiEvent}
 use Rattle.boxes.specs.declared.UiEvent.TheVariants.{PointerMoved, PointerPressed, PointerReleased, TextEntered, Edit}
@@ -93,6 +93,8 @@ change_keeps_names h (make_field d) = refl
 change_keeps_names h (solve w) = bool_cases (not h.styling.dirty && same_view h.styling.viewport w) (λ b. rw b) (λ b. rw b)
 change_keeps_names h (handle e) = refresh_keeps_names (after_event h e) ∙ event_keeps_names h e
 change_keeps_names h next_output = refl
+change_keeps_names h (confirm d) = refl
+change_keeps_names h next_ship = refl
 
 -- a call that was refused alike adds the id that it gave
 recorded_names : (u : Ui) (h : History) (c : Call) → (step u c).number ≡ refusal_of h c → (recorded h c (step u c).told).named ≡ h.named ++ id_given c (step u c)

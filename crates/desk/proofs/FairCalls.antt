@@ -9,15 +9,17 @@ use native.Mathlib.Omega.{arith}
 use Rattle.text.specs.Refusal.{Answer, number_of}
 use Rattle.text.specs.declared.refusal.Refusal.{Refusal}
 use Rattle.text.specs.declared.refusal.Refusal.TheVariants.{Broken, Missing, Fieldless}
-use Rattle.field.specs.Fields.{field_ok, held}
-use Rattle.field.specs.Metres.{metres_of, field_metres}
+use Rattle.field.specs.Fields.{field_ok, held, field_metres, view_by, view_of, metres_of_view}
+use Rattle.field.specs.Metres.{metres_of}
+use Rattle.field.specs.declared.Mark.{Mark}
+use Rattle.field.specs.declared.Mark.TheVariants.{Untouched, Typed, Confirmed}
 use Rattle.field.proofs.Reading.{reading_of}
 use Rattle.field.specs.declared.NodeId.{NodeId}
 use Rattle.field.specs.declared.Field.{Field}
 use Rattle.arithmetic.proofs.BoolLaws.{pick_of, no_more}
 use Rattle.tree.specs.Slots.{is_live}
 use Rattle.tree.specs.Styles.{no_rect}
-use Rattle.tree.specs.Fields.{field_of, no_text}
+use Rattle.tree.specs.Fields.{field_of, no_text, no_marked}
 use Rattle.tree.specs.Trees.{limit_of}
 use Rattle.tree.specs.Broken.{broken}
 use Rattle.tree.specs.Calls as tree
@@ -27,9 +29,12 @@ use Rattle.tree.proofs.FieldLaws.{a_test_of_all_is_of_each}
 use Rattle.tree.proofs.FieldParts.{found_field_is_ruled}
 use Rattle.tree.proofs.RuleParts.{a_tree_not_broken_keeps_each_rule}
 use Rattle.desk.specs.Events as desk
+use Rattle.desk.specs.Marks as marks
+use Rattle.desk.specs.Marks.{confirm_field, shown_marked}
+use Rattle.arithmetic.specs.Tests.{same}
 use Rattle.desk.specs.Events.{take_oldest}
 use Rattle.tree.specs.History.{Question}
-use Rattle.tree.specs.History.Question.{field_text, field_cursor, metres, rect, live, first_child, next_sibling, absorb}
+use Rattle.tree.specs.History.Question.{field_text, field_cursor, metres, rect, live, first_child, next_sibling, absorb, confirmed_metres, marked_text}
 use Rattle.desk.specs.Demand3.{number_asked}
 
 -- A call's number and next tree.
@@ -52,6 +57,11 @@ NotBy1 a = a.number ≡ 1 → ⊥
 
 metres_are_not_by_1 : (s : List ℕ) → NotBy1 (metres_of s)
 metres_are_not_by_1 = reading_of NotBy1 (λ v e. omega arith) (λ e. omega arith) (λ e. omega arith)
+
+confirmed_is_not_by_1 : (m : Mark) (s : List ℕ) → NotBy1 (metres_of_view (view_by m s))
+confirmed_is_not_by_1 Untouched s e = omega arith
+confirmed_is_not_by_1 Typed s e = omega arith
+confirmed_is_not_by_1 Confirmed s e = metres_are_not_by_1 s e
 
 module _ (u : Ui) where
   pub accepted : {A : Type 0} {u' : Ui} {a : A} → Behind u (gives u' a)
@@ -85,12 +95,19 @@ module _ (u : Ui) where
       go (Some f) e =
           x f (λ b. found_field_is_ruled (λ g. field_ok g ≡ true) d u.fields f (a_test_of_all_is_of_each field_ok u.fields (a_tree_not_broken_keeps_each_rule u b).fields) e)
 
+  -- a confirmation, too
+  pub confirm_is_fair : (d : NodeId) → FairCall u (marks.confirm u d)
+  unfolding marks.confirm field_metres
+  confirm_is_fair d =
+      read_is_fair d 0 (confirm_field u d) (λ f r. either (same (field_metres f).number 0) accepted
+      (record { back = λ _. refl; not_by_1 = λ b. rw (r b) (metres_are_not_by_1 (held f)) }))
+
   -- a read leaves the tree as it is
   asked : {n : ℕ} {v : Ui} → Fair u n v → Fair u n u
   asked f = record { back = λ _. refl; by_1 = f.by_1; not_by_1 = f.not_by_1 }
 
   pub question_is_fair : (q : Question) → Fair u (number_asked u q) u
-  unfolding tree.field_text tree.field_cursor desk.metres tree.rect tree.live tree.first_child tree.next_sibling desk.absorb field_metres
+  unfolding tree.field_text tree.field_cursor desk.metres tree.rect tree.live tree.first_child tree.next_sibling desk.absorb marks.confirmed_metres marks.marked_text field_metres
   question_is_fair (field_text d) = asked (read_is_fair d no_text (λ f. gives u (shown f)) (λ f _. accepted))
   question_is_fair (field_cursor d) = asked (read_is_fair d 0 (λ f. gives u f.cursor) (λ f _. accepted))
   question_is_fair (metres d) =
@@ -100,3 +117,6 @@ module _ (u : Ui) where
   question_is_fair (first_child d) = asked (guarded_is_fair None accepted)
   question_is_fair (next_sibling d) = asked (live_is_fair d None accepted)
   question_is_fair (absorb s) = asked (guarded_is_fair {A = ℕ} 0 accepted)
+  question_is_fair (confirmed_metres d) =
+      asked (read_is_fair d 0 (λ f. record { next = u; answer = metres_of_view (view_of f) }) (λ f _. record { back = λ _. refl; not_by_1 = λ _. confirmed_is_not_by_1 f.mark (held f) }))
+  question_is_fair (marked_text d) = asked (read_is_fair d no_marked (λ f. gives u (shown_marked f)) (λ f _. accepted))

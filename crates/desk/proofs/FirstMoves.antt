@@ -9,14 +9,14 @@ use Rattle.field.specs.declared.NodeId.{NodeId}
 use Rattle.arithmetic.specs.Tests.{same, all}
 use Rattle.arithmetic.proofs.BoolLaws.{no_more, both}
 use Rattle.arithmetic.proofs.TestLaws.{bool_cases}
-use Rattle.field.specs.Text.{Text}
+use Rattle.field.specs.Marks.{Marked}
 use Rattle.tree.specs.Forest.{find}
 use Rattle.tree.specs.Layout.{same_view}
 use Rattle.tree.specs.Nodes.{Info, hit_f}
 use Rattle.tree.specs.Pointers.{under_pointer}
 use Rattle.tree.specs.History.{History, Input, Call, Change, refusal_of, after_change, accept, recorded, grown, refresh, after_event, same_name}
 use Rattle.tree.specs.History.Call.{insert, change, ask}
-use Rattle.tree.specs.History.Change.{remove, set_style, set_state_table, set_patch_pool, make_field, solve, handle, next_output}
+use Rattle.tree.specs.History.Change.{remove, set_style, set_state_table, set_patch_pool, make_field, solve, handle, next_output, confirm, next_ship}
 use Rattle.boxes.specs.declared.UiEvent.{UiEvent}
 use Rattle.boxes.specs.declared.UiEvent.TheVariants.{PointerMoved, PointerPressed, PointerReleased, TextEntered, Edit}
 use Rattle.desk.specs.Demand3.{follow}
@@ -51,6 +51,8 @@ module _ (h : History) (e : h.input ≡ untouched) where
   change_touches_nothing (solve v) s = bool_cases (not h.styling.dirty && same_view h.styling.viewport v) (λ b. rw b e) (λ b. rw b e)
   change_touches_nothing (handle v) s = event_touches_nothing v s
   change_touches_nothing next_output s = e
+  change_touches_nothing (confirm d) s = e
+  change_touches_nothing next_ship s = e
 
   accepted_touches_nothing : (c : Call) (new : NodeId) → not (moves c) ≡ true → (accept h c new).input ≡ untouched
   unfolding accept grown
@@ -71,13 +73,13 @@ module _ (log : Log) (none : (m : ℕ) → log m ≡ []) where
   key_falls_nowhere focus e (TextEntered ch) m = rw e (none m)
   key_falls_nowhere focus e (Edit op) m = rw e (none m)
 
-  begun_is_empty : (o : Option Text) (name m : ℕ) → begin_at o name log m ≡ []
+  begun_is_empty : (o : Option Marked) (name m : ℕ) → begin_at o name log m ≡ []
   begun_is_empty None name m = bool_cases (same m name) (λ b. rw b) (λ b. rw b (none m))
   begun_is_empty (Some t) name m = none m
 
   field_is_empty : (o : Option Info) (m : ℕ) → log_field o log m ≡ []
   field_is_empty None m = none m
-  field_is_empty (Some x) m = begun_is_empty x.text x.name m
+  field_is_empty (Some x) m = begun_is_empty x.marked x.name m
 
   change_types_nothing : (h : History) → h.input.focus ≡ None → (c : Change) (m : ℕ) → logged_change h c log m ≡ []
   change_types_nothing h e (remove d) m = none m
@@ -88,6 +90,8 @@ module _ (log : Log) (none : (m : ℕ) → log m ≡ []) where
   change_types_nothing h e (solve v) m = none m
   change_types_nothing h e (handle v) m = key_falls_nowhere h.input.focus e v m
   change_types_nothing h e next_output m = none m
+  change_types_nothing h e (confirm d) m = none m
+  change_types_nothing h e next_ship m = none m
 
   call_types_nothing : (h : History) → h.input.focus ≡ None → (c : Call) (m : ℕ) → logged h c log m ≡ []
   unfolding logged

@@ -8,7 +8,7 @@ use mathlib.Core.List.{List}
 use Prim.Native.Nat.{ℕ, suc, ◌≤◌, ◌<◌}
 use native.Mathlib.Omega.{arith}
 use lib.ListN.{length, get_or, take, drop, length-append, length-drop}
-use Rattle.field.specs.Text.{Text}
+use Rattle.field.specs.Marks.{Marked}
 use Rattle.field.specs.declared.NodeId.{NodeId}
 use Rattle.field.specs.declared.Field.{Field}
 use Rattle.arithmetic.specs.Tests.{occ}
@@ -27,7 +27,7 @@ use Rattle.tree.proofs.Payloads.{AllF, shape, all_map, all_map_f, shape_map}
 use Rattle.tree.proofs.Rounds.{Worn, Sized}
 use Rattle.tree.proofs.PassLaws.{Boxed, placing_keeps_what_boxes_leave_alone, placing_keeps_the_shape}
 use Rattle.tree.proofs.WellLaws.{StatesWell}
-use Rattle.tree.proofs.Relation.{Links, Naming, Styled, Pool, Texts, Queue, text_in}
+use Rattle.tree.proofs.Relation.{Links, Naming, Styled, Pool, Texts, Queue, marked_in}
 use Rattle.tree.proofs.ShapeParts.{links_after, links_of_shape, naming_by_shape, texts_by_shape}
 use Rattle.tree.proofs.FieldParts.{retexted, texts_keep_styling, texts_keep_naming}
 use Rattle.tree.specs.History.{History, Styling, Input, with_styling, with_names, with_input, with_tree, id_named}
@@ -47,7 +47,7 @@ abbrev pub OwnName : List NodeId → ℕ → ℕ → Info → Type 0
 OwnName named i g x = (x.name < length named) × (get_or named x.name nobody ≡ record { index = i; generation = g })
 
 abbrev pub OwnText : List Field → ℕ → ℕ → Info → Type 0
-OwnText fields i g x = x.text ≡ text_in (field_of (record { index = i; generation = g }) fields)
+OwnText fields i g x = x.marked ≡ marked_in (field_of (record { index = i; generation = g }) fields)
 
 -- ---- the parts
 
@@ -177,18 +177,18 @@ module _ {u u' : Ui} where
 
 pub record SameNodes (t t' : Forest Info) : Type 1 where
   pub shape_is : shape t ≡ shape t'
-  pub keeps : (P : ℕ → ℕ → Info → Type 0) → ((i g : ℕ) (x y : Info) → y.name ≡ x.name → y.text ≡ x.text → P i g x → P i g y) → AllF P t → AllF P t'
+  pub keeps : (P : ℕ → ℕ → Info → Type 0) → ((i g : ℕ) (x y : Info) → y.name ≡ x.name → y.marked ≡ x.marked → P i g x → P i g y) → AllF P t → AllF P t'
 
-pub same_nodes_each : (w : ℕ → ℕ → Info → Info) → ((i g : ℕ) (x : Info) → ((w i g x).name ≡ x.name) × ((w i g x).text ≡ x.text)) → (t : Forest Info) → SameNodes t (map_f w t)
+pub same_nodes_each : (w : ℕ → ℕ → Info → Info) → ((i g : ℕ) (x : Info) → ((w i g x).name ≡ x.name) × ((w i g x).marked ≡ x.marked)) → (t : Forest Info) → SameNodes t (map_f w t)
 same_nodes_each w e t = record {
   shape_is = sym (shape_map w t);
   keeps = λ P q a. all_map_f P w t (all_map P (λ i g x. P i g (w i g x)) t (λ i g x _ p. q i g x (w i g x) (e i g x).0 (e i g x).1 p) a);
 }
 
-pub same_nodes_some : (b : ℕ → ℕ → Bool) (f : Info → Info) → ((x : Info) → ((f x).name ≡ x.name) × ((f x).text ≡ x.text)) → (t : Forest Info) → SameNodes t (map_f (λ i g x. cond (b i g) (f x) x) t)
+pub same_nodes_some : (b : ℕ → ℕ → Bool) (f : Info → Info) → ((x : Info) → ((f x).name ≡ x.name) × ((f x).marked ≡ x.marked)) → (t : Forest Info) → SameNodes t (map_f (λ i g x. cond (b i g) (f x) x) t)
 same_nodes_some b f e t = same_nodes_each (λ i g x. cond (b i g) (f x) x) (λ i g x. go (b i g) x) t
   where
-    go : (c : Bool) (x : Info) → ((cond c (f x) x).name ≡ x.name) × ((cond c (f x) x).text ≡ x.text)
+    go : (c : Bool) (x : Info) → ((cond c (f x) x).name ≡ x.name) × ((cond c (f x) x).marked ≡ x.marked)
     go true x = e x
     go false x = (refl, refl)
 
@@ -252,7 +252,7 @@ module _ {k : ℕ} {u : Ui} {h : History} (v : Inv k u h) where
   }
 
   -- other fields, and other texts at some nodes
-  pub with_texts : (b : ℕ → ℕ → Info → Bool) (y : Info → Option Text) (fs : List Field) → Texts u.slots fs (map_f (retexted b y) h.tree)
+  pub with_texts : (b : ℕ → ℕ → Info → Bool) (y : Info → Option Marked) (fs : List Field) → Texts u.slots fs (map_f (retexted b y) h.tree)
       → Inv k (with_fields u fs) (with_tree h (map_f (retexted b y) h.tree) h.styling.dirty)
   unfolding with_fields
   with_texts b y fs x = record {

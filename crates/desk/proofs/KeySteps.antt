@@ -7,12 +7,12 @@ use Prim.Native.Nat.{ℕ, ◌+◌, ◌<◌}
 use lib.Dec.{leb}
 use lib.ListN.{length, get_or}
 use Rattle.text.specs.Utf8.{is_scalar, encoded}
-use Rattle.field.specs.Fields.{in_range, field_ok, moved, cut_out, put_in, edited_in, edited, inserted, text_of}
+use Rattle.field.specs.Fields.{in_range, field_ok, moved, cut_out, put_in, edited_in, edited, inserted, marked_of}
 use Rattle.field.specs.declared.NodeId.{NodeId}
 use Rattle.field.specs.declared.Field.{Field}
 use Rattle.field.specs.declared.EditOp.{EditOp}
 use Rattle.field.specs.declared.EditOp.TheVariants.{Backspace, Delete, Left, Right, Home, End}
-use Rattle.field.proofs.Laws.{edit_keeps_the_rules, edit_keeps_64_bytes, edit_is_the_texts, insert_keeps_the_rules, insert_keeps_64_bytes, insert_is_the_texts}
+use Rattle.field.proofs.Laws.{edit_keeps_the_rules, edit_keeps_64_bytes, edit_is_the_texts, edit_marks_a_change, insert_keeps_the_rules, insert_keeps_64_bytes, insert_is_the_texts, insert_marks_a_change}
 use Rattle.tree.specs.Slots.{same_id, nobody}
 use Rattle.tree.specs.Forest.{Forest, nil, node, has_id, map_f}
 use Rattle.tree.specs.Nodes.{Info, with_field, is_named, change_named}
@@ -26,7 +26,7 @@ use Rattle.tree.proofs.Ids.{live_just_where_a_node_has_it}
 use Rattle.tree.proofs.Relation.{Texts}
 use Rattle.tree.proofs.FieldParts.{retexted, edit_keeps_texts, no_edit_of_a_dead_id, no_edit_without_a_field, unchanged_at_each_node}
 use Rattle.desk.specs.Events.{keyed_field, has_changed, edit_fold, folded_by, edit_field, edit_focused}
-use Rattle.tree.specs.History.{History, with_tree, id_named, key_text, map_maybe, typed_into}
+use Rattle.tree.specs.History.{History, with_tree, id_named, key_marked, map_maybe, typed_into}
 use Rattle.boxes.specs.declared.Key.{Key}
 use Rattle.boxes.specs.declared.Key.TheVariants.{Char, Op}
 use Rattle.desk.proofs.Invariant.{NameIn, InputAgrees, Inv, with_input_lem, with_texts}
@@ -49,22 +49,24 @@ key_keeps_owner (Char c) f = bool_cases (in_range f && (is_scalar c && leb (f.le
 key_keeps_owner (Op op) f = bool_cases (in_range f) (λ e. rw e (op_keeps_owner f op)) (λ e. rw e)
 
 pub key_keeps_rules : (key : Key) (f : Field) → field_ok f ≡ true → length f.bytes ≡ 64
-    → (field_ok (keyed_field key f) ≡ true) × (length (keyed_field key f).bytes ≡ 64) × (text_of (keyed_field key f) ≡ key_text key (text_of f))
-key_keeps_rules (Char c) f h l = (insert_keeps_the_rules f h l c, insert_keeps_64_bytes f h l c, insert_is_the_texts f h l c)
-key_keeps_rules (Op op) f h l = (edit_keeps_the_rules f h l op, edit_keeps_64_bytes f h l op, edit_is_the_texts f h l op)
+    → (field_ok (keyed_field key f) ≡ true) × (length (keyed_field key f).bytes ≡ 64) × (marked_of (keyed_field key f) ≡ key_marked key (marked_of f))
+key_keeps_rules (Char c) f h l =
+    (insert_keeps_the_rules f h l c, insert_keeps_64_bytes f h l c, λ i. record { text = insert_is_the_texts f h l c i; mark = insert_marks_a_change f h l c i })
+key_keeps_rules (Op op) f h l =
+    (edit_keeps_the_rules f h l op, edit_keeps_64_bytes f h l op, λ i. record { text = edit_is_the_texts f h l op i; mark = edit_marks_a_change f h l op i })
 
 -- ---- the invariant with other texts
 
 module _ (k : ℕ) (u : Ui) (h : History) (v : Inv k u h) (key : Key) (fo : Option ℕ) where
   abbrev named_text : Forest Info
-  named_text = map_f (retexted (λ i g x. is_named fo x) (λ x. map_maybe (key_text key) x.text)) h.tree
+  named_text = map_f (retexted (λ i g x. is_named fo x) (λ x. map_maybe (key_marked key) x.marked)) h.tree
 
   abbrev after_key : History
   after_key = with_tree h named_text h.styling.dirty
 
   -- the same tree but for fields and the fold of edits
   with_keyed : (fs : List Field) (a : Interaction) → InputAgrees a h.named h.input → Texts u.slots fs named_text → Inv k (with_interaction (with_fields u fs) a) after_key
-  with_keyed fs a i x = with_input_lem (with_texts v (λ i g x. is_named fo x) (λ x. map_maybe (key_text key) x.text) fs x) a h.input i
+  with_keyed fs a i x = with_input_lem (with_texts v (λ i g x. is_named fo x) (λ x. map_maybe (key_marked key) x.marked) fs x) a h.input i
 
   -- the tree as it was
   same_tree : Texts u.slots u.fields named_text → Inv k u after_key
@@ -80,7 +82,7 @@ module _ (k : ℕ) (u : Ui) (h : History) (v : Inv k u h) (key : Key) (fo : Opti
 
     edits : (mf : Option Field) → field_of d u.fields ≡ mf → Inv k (edit_field u d key mf) after_key
     edits None q =
-        same_tree (no_edit_without_a_field u.slots h.tree u.fields v.nodes.texts d (keyed_field key) (key_text key) (λ i g x. is_named fo x) is_d (map_maybe (key_text key)) refl (λ z. refl) q)
+        same_tree (no_edit_without_a_field u.slots h.tree u.fields v.nodes.texts d (keyed_field key) (key_marked key) (λ i g x. is_named fo x) is_d (map_maybe (key_marked key)) refl (λ z. refl) q)
     edits (Some f) q =
         bool_cases (has_changed f (keyed_field key f))
         (λ c. rw c (with_keyed (change_first (owns d) (keyed_field key) u.fields) (folded_by u.interaction (edit_fold u d key)) (record { pointer_is = v.input.pointer_is; pressed = v.input.pressed; focus = v.input.focus }) edited_texts))
@@ -88,8 +90,8 @@ module _ (k : ℕ) (u : Ui) (h : History) (v : Inv k u h) (key : Key) (fo : Opti
       where
         edited_texts : Texts u.slots (change_first (owns d) (keyed_field key) u.fields) named_text
         edited_texts =
-            edit_keeps_texts u.slots h.tree u.fields v.nodes.texts d (keyed_field key) (key_text key) (λ i g x. is_named fo x) is_d (map_maybe (key_text key)) refl (λ z. refl)
-            (key_keeps_owner key) (key_keeps_rules key)
+            edit_keeps_texts u.slots h.tree u.fields v.nodes.texts d (keyed_field key) (key_marked key) (λ i g x. is_named fo x) is_d (map_maybe (key_marked key)) refl (λ z. refl)
+            (key_keeps_owner key) (λ f _. key_keeps_rules key f)
 
     into_the_node : Inv k (edit_focused u key (Some d)) after_key
     into_the_node =
@@ -97,7 +99,7 @@ module _ (k : ℕ) (u : Ui) (h : History) (v : Inv k u h) (key : Key) (fo : Opti
         bool_cases (has_id d h.tree)
         (λ c. rw (l ∙ c) (edits (field_of d u.fields) refl))
         (λ c. rw (l ∙ c)
-        (same_tree (no_edit_of_a_dead_id u.slots h.tree u.fields v.nodes.texts d (keyed_field key) (key_text key) (λ i g x. is_named fo x) is_d (map_maybe (key_text key)) refl (λ z. refl) c)))
+        (same_tree (no_edit_of_a_dead_id u.slots h.tree u.fields v.nodes.texts d (keyed_field key) (key_marked key) (λ i g x. is_named fo x) is_d (map_maybe (key_marked key)) refl (λ z. refl) c)))
 
 -- ---- a key
 
@@ -107,10 +109,10 @@ of_all_nodes P h nil = tt
 of_all_nodes P h (node i g x cs sib) = (h i g x, of_all_nodes P h cs, of_all_nodes P h sib)
 
 module _ {k : ℕ} {u : Ui} {h : History} (v : Inv k u h) (key : Key) where
-  key_into : (fo : Option ℕ) → NameIn h.named fo → Inv k (edit_focused u key (id_named h.named fo)) (with_tree h (change_named fo (λ x. with_field x (map_maybe (key_text key) x.text)) h.tree) h.styling.dirty)
+  key_into : (fo : Option ℕ) → NameIn h.named fo → Inv k (edit_focused u key (id_named h.named fo)) (with_tree h (change_named fo (λ x. with_field x (map_maybe (key_marked key) x.marked)) h.tree) h.styling.dirty)
   key_into None n =
       subst (λ (t : Forest Info). Inv k u (with_tree h t h.styling.dirty))
-      (sym (unchanged_at_each_node (λ i g x. cond (is_named None x) (with_field x (map_maybe (key_text key) x.text)) x) h.tree (of_all_nodes _ (λ i g x. refl) h.tree))) v
+      (sym (unchanged_at_each_node (λ i g x. cond (is_named None x) (with_field x (map_maybe (key_marked key) x.marked)) x) h.tree (of_all_nodes _ (λ i g x. refl) h.tree))) v
   key_into (Some m) n = into_the_node k u h v key (Some m) m n refl
 
   pub key_agrees : Inv k (edit_focused u key u.interaction.focus) (typed_into h key)

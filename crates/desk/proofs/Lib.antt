@@ -10,6 +10,7 @@ pub mod OutputSteps
 pub mod ComputedRuns
 pub mod AnswerLaws
 pub mod ReadSteps
+pub mod MarkSteps
 pub mod CallSteps
 pub mod FairCalls
 pub mod CallLaws
@@ -18,4 +19,8 @@ pub mod PassBoxes
 pub mod Demand3
 pub mod NewTrees
 pub mod FirstMoves
+pub mod KeyLogs
+pub mod Standing
 pub mod Corollaries
+pub mod Confirmed
+pub mod MarkLaws

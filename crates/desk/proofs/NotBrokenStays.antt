@@ -2,42 +2,46 @@
 use Rattle.std.specs.Prelude.{None, Option, Some}
 use mathlib.Core.Path.{◌≡◌, refl, sym, ap, subst, ◌∙◌}
 use mathlib.Core.Bool.{Bool, true, false, ◌&&◌, not}
-use mathlib.Core.List.{List, [], ◌∷◌, ◌++◌}
+use mathlib.Core.List.{List, [], ◌∷◌, ◌++◌, map}
 use Prim.Native.Nat.{ℕ, ◌<◌}
 use native.Mathlib.Omega.{arith}
 use borrow.Author.Tests.{ltb-true, ltb-false}
 use lib.Dec.{ltb}
-use lib.ListN.{length, length-append}
+use lib.ListN.{length, length-append, length-map}
 use lib.Seq.{length-take-le, take_all}
-use Rattle.field.specs.Fields.{field_ok}
+use Rattle.field.specs.Fields.{field_ok, with_mark, unconfirmed, field_metres}
+use Rattle.field.specs.declared.Mark.TheVariants.{Confirmed}
+use Rattle.field.proofs.Laws.{mark_keeps_the_rules, next_ship_keeps_the_rules}
 use Rattle.field.specs.declared.NodeId.{NodeId}
 use Rattle.field.specs.declared.Field.{Field}
 use Rattle.arithmetic.specs.Tests.{same, all}
 use Rattle.arithmetic.proofs.BoolLaws.{pick_of, and_left, and_right}
-use Rattle.arithmetic.proofs.TestLaws.{eq_cases, same_yes, same_is}
+use Rattle.arithmetic.proofs.TestLaws.{bool_cases, eq_cases, same_yes, same_is}
 use Rattle.tree.specs.Slots.{NIL, is_live, nobody, is_id}
 use Rattle.tree.specs.Styles.{no_state, state_at}
 use Rattle.tree.specs.States.{in_pool}
 use Rattle.tree.specs.Fields.{owns, field_of, first_field, vacant, reclaimed, change_first}
-use Rattle.tree.specs.Trees.{limit_of, waiting_of}
+use Rattle.tree.specs.Trees.{limit_of, waiting_of, with_fields}
 use Rattle.tree.specs.Broken.{broken}
 use Rattle.tree.specs.Layout.{same_view}
 use Rattle.tree.specs.Calls as tree
-use Rattle.tree.specs.Calls.{take_vacant, take_field}
+use Rattle.tree.specs.Calls.{take_vacant, take_field, of_field, on_field}
 use Rattle.tree.specs.Types.{StateSlot}
 use Rattle.tree.specs.declared.Ui.{Ui}
 use Rattle.tree.proofs.Relation.{AllFields}
 use Rattle.tree.proofs.StateLaws.{EachState}
 use Rattle.tree.proofs.WellLaws.{each_of_a_front_passes, a_front_passes_if_each_does, states_well_by_slot}
-use Rattle.tree.proofs.FieldLaws.{an_edit_keeps_of_each, an_edit_keeps_the_number_of_fields, an_edit_keeps_owners_apart}
+use Rattle.tree.proofs.FieldLaws.{an_edit_keeps_of_each, an_edit_keeps_the_number_of_fields, an_edit_keeps_owners_apart, a_change_of_all_keeps_of_each, a_change_of_all_keeps_owners_apart}
 use Rattle.tree.proofs.RuleParts.{a_tree_not_broken_keeps_each_rule}
 use Rattle.tree.proofs.KeptTrees.{Tabled, FieldKept, Kept, Keeps, a_kept_tree_is_not_broken, a_style_keeps_the_tree, a_table_keeps_the_tree, a_pool_keeps_the_tree, a_refresh_keeps_the_tree, a_pass_keeps_the_tree, a_field_made_keeps_the_tree, other_fields_keep_the_tree, another_interaction_keeps_the_tree, other_outputs_keep_the_tree, the_same_tree_is_kept, guarded_keeps, live_keeps}
 use Rattle.tree.proofs.KeptLinks.{an_insertion_keeps_the_tree, a_removal_keeps_the_tree}
 use Rattle.desk.specs.Events as desk
+use Rattle.desk.specs.Marks as marks
+use Rattle.desk.specs.Marks.{confirm_field}
 use Rattle.desk.specs.Events.{activate, released_on, keyed_field, edit_field, edit_focused, applied_event, hit_of, handled, take_oldest}
 use Rattle.tree.specs.History.{Call, Change}
 use Rattle.tree.specs.History.Call.{insert, change, ask}
-use Rattle.tree.specs.History.Change.{remove, set_style, set_state_table, set_patch_pool, make_field, solve, handle, next_output}
+use Rattle.tree.specs.History.Change.{remove, set_style, set_state_table, set_patch_pool, make_field, solve, handle, next_output, confirm, next_ship}
 use Rattle.desk.specs.Demand3.{step, change_step, run, Machine, MachineChange, Machines}
 use Rattle.desk.specs.CallLaws.{MachineTree, NotBrokenStays}
 use Rattle.boxes.specs.declared.UiEvent.{UiEvent}
@@ -46,6 +50,7 @@ use Rattle.boxes.specs.declared.Key.{Key}
 use Rattle.boxes.specs.declared.Key.TheVariants.{Char, Op}
 use Rattle.desk.proofs.EventLaws.{has_room}
 use Rattle.desk.proofs.KeySteps.{key_keeps_owner, key_keeps_rules}
+use Rattle.desk.proofs.MarkSteps.{confirmed, the_field_found_reads}
 
 -- ---- lengths as tests
 
@@ -128,7 +133,7 @@ module _ {u : Ui} (k : Kept u) where
   edit_keeps d key (Some f) =
       another_interaction_keeps_the_tree (other_fields_keep_the_tree k (change_first (owns d) (keyed_field key) u.fields) (record {
         eight = an_edit_keeps_the_number_of_fields (owns d) (keyed_field key) u.fields ∙ k.fields.eight;
-        ruled = an_edit_keeps_of_each FieldKept (owns d) (keyed_field key) (λ g r. let q = key_keeps_rules key g r.0 r.1 in (q.0, q.1)) u.fields k.fields.ruled;
+        ruled = an_edit_keeps_of_each FieldKept (owns d) (keyed_field key) u.fields (λ g _ r. let q = key_keeps_rules key g r.0 r.1 in (q.0, q.1)) k.fields.ruled;
         owners = an_edit_keeps_owners_apart (keyed_field key) (key_keeps_owner key) d u.fields k.fields.owners;
       })) _
 
@@ -181,8 +186,32 @@ module _ {u : Ui} (k : Kept u) where
       let f = k.queue.few in
       record { next_kept = other_outputs_keep_the_tree k ds (omega arith) }
 
+  confirmed_keeps : (d : NodeId) (m : Option Field) → field_of d u.fields ≡ m → Keeps (of_field u 0 (confirm_field u d) m)
+  unfolding with_mark field_of
+  confirmed_keeps d None e = the_same_tree_is_kept k
+  confirmed_keeps d (Some f) e =
+      bool_cases (same (field_metres f).number 0)
+      (λ b. rw b record {
+        next_kept = other_fields_keep_the_tree k (change_first (owns d) confirmed u.fields) (record {
+          eight = an_edit_keeps_the_number_of_fields (owns d) confirmed u.fields ∙ k.fields.eight;
+          ruled = an_edit_keeps_of_each FieldKept (owns d) confirmed u.fields (λ g q r.
+              let reading = the_field_found_reads d u.fields e q r.0 (same_is (field_metres f).number 0 b) in
+              (mark_keeps_the_rules g Confirmed r.0 reading, r.1)) k.fields.ruled;
+          owners = an_edit_keeps_owners_apart confirmed (λ g. refl) d u.fields k.fields.owners;
+        });
+      })
+      (λ b. rw b (the_same_tree_is_kept k))
+
+  unconfirmed_keeps : Kept (with_fields u (map unconfirmed u.fields))
+  unfolding unconfirmed with_mark
+  unconfirmed_keeps = other_fields_keep_the_tree k (map unconfirmed u.fields) (record {
+    eight = length-map u.fields unconfirmed ∙ k.fields.eight;
+    ruled = a_change_of_all_keeps_of_each FieldKept unconfirmed (λ g r. (next_ship_keeps_the_rules g r.0, r.1)) u.fields k.fields.ruled;
+    owners = a_change_of_all_keeps_owners_apart unconfirmed (λ g. refl) nobody u.fields k.fields.owners;
+  })
+
   change_keeps : (c : Change) → MachineChange c → Kept (change_step u c).next
-  unfolding tree.set_style tree.set_state_table tree.set_patch_pool tree.make_field tree.solve desk.handle desk.next_output handled
+  unfolding tree.set_style tree.set_state_table tree.set_patch_pool tree.make_field tree.solve desk.handle desk.next_output handled marks.confirm marks.next_ship on_field
   change_keeps (remove d) m = (remove_keeps d).next_kept
   change_keeps (set_style d s) m = (live_keeps k {A = ℕ} d 0 (λ live. record { next_kept = a_style_keeps_the_tree k d.index (live_is_a_slot d live) s })).next_kept
   change_keeps (set_state_table d table) m =
@@ -197,6 +226,8 @@ module _ {u : Ui} (k : Kept u) where
       (λ _. record { next_kept = a_pass_keeps_the_tree k v }))).next_kept
   change_keeps (handle e) m = (guarded_keeps k {A = ℕ} 0 (record { next_kept = a_refresh_keeps_the_tree (event_keeps k (hit_of u) e) _ })).next_kept
   change_keeps next_output m = (guarded_keeps k None (output_keeps (waiting_of u) refl)).next_kept
+  change_keeps (confirm d) m = (live_keeps k {A = ℕ} d 0 (λ live. confirmed_keeps d (field_of d u.fields) refl)).next_kept
+  change_keeps next_ship m = (guarded_keeps k {A = ℕ} 0 (record { next_kept = unconfirmed_keeps })).next_kept
 
   pub call_keeps : (c : Call) → Machine c → Kept (step u c).next
   unfolding step

@@ -12,7 +12,7 @@ use Rattle.tree.specs.Nodes.{Info, has_field}
 use Rattle.tree.specs.Calls as tree
 use Rattle.tree.specs.History.{History, Call, Change, start, padded, root_id}
 use Rattle.tree.specs.History.Call.{insert, change, ask}
-use Rattle.tree.specs.History.Change.{remove, set_style, set_state_table, set_patch_pool, make_field, solve, handle, next_output}
+use Rattle.tree.specs.History.Change.{remove, set_style, set_state_table, set_patch_pool, make_field, solve, handle, next_output, confirm, next_ship}
 use Rattle.tree.specs.declared.Ui.{Ui}
 use Rattle.tree.specs.Types.{StartKind}
 use Rattle.boxes.specs.declared.StartKind.TheVariants.{New}
@@ -39,6 +39,8 @@ change_moves (make_field d) = false
 change_moves (solve v) = false
 change_moves (handle e) = is_move e
 change_moves next_output = false
+change_moves (confirm d) = false
+change_moves next_ship = false
 
 abbrev pub moves : Call → Bool
 moves (insert d) = false

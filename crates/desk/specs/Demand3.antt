@@ -3,6 +3,7 @@
 -- What it promises the harbour master: whatever was inserted, removed, styled, pressed and typed before, and however slots and fields were
 -- used again, a live node answers as if every node ever made had a name of its own. Its text is made of the keys that were handled while it had
 -- the focus, and of no other ship's; a field into which no key fell is empty and reads as 9, never as 0; its box is that of the last pass.
+-- What follows of keys is in Corollaries.antt, and of confirmed draughts in Confirmed.antt.
 use Rattle.std.specs.Prelude.{ℕ, zero, suc, ◌+◌, ◌<◌, ◌^◌, ◌≡◌, false, cond, List, [], ◌∷◌, ◌++◌, length, None, Option, Some}
 use Rattle.field.specs.declared.NodeId.{NodeId}
 use Rattle.arithmetic.specs.Tests.{same}
@@ -13,10 +14,11 @@ use Rattle.tree.specs.Calls.{Outcome}
 use Rattle.tree.specs.declared.Ui.{Ui}
 use Rattle.tree.specs.Types.{StartKind}
 use Rattle.desk.specs.Events as desk
-use Rattle.tree.specs.History.{History, Call, Change, Question, start, refusal_of, recorded, text_said, caret_said, metres_said, rect_said, live_said, first_said, next_said, id_named}
+use Rattle.desk.specs.Marks as marks
+use Rattle.tree.specs.History.{History, Call, Change, Question, start, refusal_of, recorded, text_said, caret_said, metres_said, rect_said, live_said, first_said, next_said, confirmed_said, marked_said, id_named}
 use Rattle.tree.specs.History.Call.{insert, change, ask}
-use Rattle.tree.specs.History.Change.{remove, set_style, set_state_table, set_patch_pool, make_field, solve, handle, next_output}
-use Rattle.tree.specs.History.Question.{field_text, field_cursor, metres, rect, live, first_child, next_sibling, absorb}
+use Rattle.tree.specs.History.Change.{remove, set_style, set_state_table, set_patch_pool, make_field, solve, handle, next_output, confirm, next_ship}
+use Rattle.tree.specs.History.Question.{field_text, field_cursor, metres, rect, live, first_child, next_sibling, absorb, confirmed_metres, marked_text}
 
 -- ---- the calls, by the definitions that the contracts cite
 
@@ -41,6 +43,8 @@ change_step u (make_field d) = silent (tree.make_field u d)
 change_step u (solve v) = silent (tree.solve u v)
 change_step u (handle e) = silent (desk.handle u e)
 change_step u next_output = silent (desk.next_output u)
+change_step u (confirm d) = silent (marks.confirm u d)
+change_step u next_ship = silent (marks.next_ship u)
 
 -- A read's number is its answer's; the tree stays as it is.
 abbrev pub number_asked : Ui → Question → ℕ
@@ -52,6 +56,8 @@ number_asked u (live d) = (tree.live u d).answer.number
 number_asked u (first_child d) = (tree.first_child u d).answer.number
 number_asked u (next_sibling d) = (tree.next_sibling u d).answer.number
 number_asked u (absorb s) = (desk.absorb u s).answer.number
+number_asked u (confirmed_metres d) = (marks.confirmed_metres u d).answer.number
+number_asked u (marked_text d) = (marks.marked_text u d).answer.number
 
 unfoldable pub step : Ui → Call → Step
 step u (insert d) = telling (tree.insert u d)
@@ -90,6 +96,8 @@ MachineChange (make_field d) = Unit {0}
 MachineChange (solve v) = Unit {0}
 MachineChange (handle e) = Unit {0}
 MachineChange next_output = Unit {0}
+MachineChange (confirm d) = Unit {0}
+MachineChange next_ship = Unit {0}
 
 abbrev pub Machine : Call → Type 0
 Machine (insert d) = Unit {0}
@@ -133,6 +141,8 @@ pub record Agree (u : Ui) (h : History) : Type 0 where
   pub text_is : (d : NodeId) → (tree.field_text u d).answer ≡ text_said h d
   pub caret_is : (d : NodeId) → (tree.field_cursor u d).answer ≡ caret_said h d
   pub metres_are : (d : NodeId) → (desk.metres u d).answer ≡ metres_said h d
+  pub confirmed_metres_are : (d : NodeId) → (marks.confirmed_metres u d).answer ≡ confirmed_said h d
+  pub marked_text_is : (d : NodeId) → (marks.marked_text u d).answer ≡ marked_said h d
   pub rect_is : (d : NodeId) → (tree.rect u d).answer ≡ rect_said h d
   pub pointer_is : u.interaction.pointer ≡ h.input.pointer
   pub press_is : u.interaction.pressed ≡ id_named h.named h.input.pressed

@@ -4,8 +4,7 @@ use Rattle.std.specs.Prelude.{ℕ, Bool, true, false, ◌&&◌, not, cond, List,
 use Rattle.arithmetic.specs.Scalar.{incremented, unsigned_of}
 use Rattle.arithmetic.specs.Fold.{low_bytes, empty_hash, absorbed}
 use Rattle.arithmetic.specs.declared.fold.StateHash.{StateHash}
-use Rattle.field.specs.Fields.{inserted, edited}
-use Rattle.field.specs.Metres.{field_metres}
+use Rattle.field.specs.Fields.{inserted, edited, field_metres}
 use Rattle.field.specs.declared.NodeId.{NodeId}
 use Rattle.field.specs.declared.Field.{Field}
 use Rattle.field.specs.declared.EditOp.{EditOp}

@@ -1,6 +1,9 @@
 pub mod Events
+pub mod Marks
+pub mod MarkLaws
 pub mod Demand3
 pub mod CallLaws
 pub mod Keys
 pub mod Corollaries
+pub mod Confirmed
 pub mod Answers

@@ -1,8 +1,9 @@
-// The desk: events, outputs, the fingerprint and metres by node.
+// The desk: events, outputs, the fingerprint, metres and marks by node.
 #![tactic(auto)]
 
 mod events;
 mod fold;
+mod marks;
 mod outputs;
 mod wearing;
 
@@ -15,6 +16,7 @@ ghost use Rattle.desk.specs.Events as calls;
 use arithmetic::fold::StateHash;
 pub use boxes::{Key, UiEvent};
 use field::NodeId;
+pub use marks::{MarkedText, confirm, confirmed_metres, marked_text, next_ship};
 use text::refusal::Refusal;
 use tree::answers::{Changed, Reply};
 use tree::{Ui, fields, input, rules};

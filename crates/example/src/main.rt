@@ -1,4 +1,4 @@
-// A program over the library: a desk with one field, a draught typed into it, and its centimetres.
+// A program over the library: a desk with one field, a draught typed into it, its centimetres, and its confirmation.
 #![tactic(auto)]
 
 use desk::UiEvent;
@@ -20,7 +20,8 @@ fn main(rt: HostRuntime) -> io::Result<()> {
     for key in b"4.25" {
         u = typed(u, *key);
     }
-    show(&rt, desk::metres(u, draught))
+    show(&rt, desk::metres(u, draught))?;
+    confirmed(&rt, u, draught)
 }
 
 // A field for the node, a size, and a layout pass, without which no press hits it. Each call gives a verdict and the next tree; a refused
@@ -47,6 +48,15 @@ fn clicked(u: Ui, x: i32, y: i32) -> Ui {
 fn typed(u: Ui, key: u8) -> Ui {
     let next = desk::handle(u, UiEvent::TextEntered { ch: u32::from(key) });
     next.tree
+}
+
+// What a ramp is set by: the number is given once the draught is confirmed, and no longer when the next ship has come.
+fn confirmed(rt: &impl Print, u: Ui, draught: NodeId) -> io::Result<()> {
+    show(rt, desk::confirmed_metres(u, draught))?;
+    let sure = desk::confirm(u, draught);
+    show(rt, desk::confirmed_metres(sure.tree, draught))?;
+    let next = desk::next_ship(sure.tree);
+    show(rt, desk::confirmed_metres(next.tree, draught))
 }
 
 fn show(rt: &impl Print, m: Result<u32, Refusal>) -> io::Result<()> {

@@ -11,7 +11,7 @@ use Rattle.arithmetic.proofs.BoolLaws.{pick_of, both, and_both}
 use Rattle.text.specs.Utf8.{is_scalar, encoded, encoded_all}
 use Rattle.text.specs.Refusal.{refused}
 use Rattle.text.specs.declared.refusal.Refusal.TheVariants.{Empty}
-use Rattle.field.specs.Text.{Text, text, bytes_of, typed, keyed}
+use Rattle.field.specs.Text.{Text, text, bytes_of, goes_in, typed, keyed}
 use Rattle.field.specs.Metres.{is_space, metres_of}
 use Rattle.field.specs.declared.EditOp.{EditOp}
 use Rattle.field.specs.declared.EditOp.TheVariants.{Backspace, Delete, Left, Right, Home, End}
@@ -26,7 +26,7 @@ all_over [] a p q = q
 all_over (c ∷ b) a p q = let k = both (is_space c) (all is_space b) p in all_over b (c ∷ a) k.1 (and_both k.0 q)
 
 pub typed_blank : (c : ℕ) → is_space c ≡ true → (t : Text) → Blank t → Blank (typed c t)
-unfolding typed
+unfolding typed goes_in
 typed_blank c e (text b a) k =
     pick_of Blank (is_scalar c && leb (length (bytes_of (text b a)) + length (encoded c)) 64) (λ _. (and_both e k.0, k.1)) (λ _. k)
 

@@ -14,6 +14,7 @@ use Rattle.text.proofs.Encodes.Bytes.{nothing, some}
 use Rattle.field.specs.Fields.{in_range, held, put_in, inserted}
 use Rattle.arithmetic.specs.Tests.{over}
 use Rattle.field.specs.declared.Field.{Field}
+use Rattle.field.specs.declared.Mark.TheVariants.{Typed}
 use Rattle.field.proofs.Ranges.{caret_in_range}
 use Rattle.field.proofs.Pastes.{put_in_lem}
 
@@ -41,6 +42,7 @@ module _ (f : Field) (h : in_range f ≡ true) (c : ℕ) where
           bytes = paste (paste f.bytes (f.cursor + e.len) (drop f.cursor f.bytes) (f.len - f.cursor)) f.cursor e.bytes e.len;
           len = f.len + e.len;
           cursor = f.cursor + e.len;
+          mark = Typed;
         } ≡ inserted f c
     unfolding inserted put_in
     bytes_go_in (nothing k z) n g long = absurd (n z)
@@ -51,4 +53,4 @@ module _ (f : Field) (h : in_range f ≡ true) (c : ℕ) where
         ap (λ (x : List ℕ). over ((take f.cursor f.bytes ++ x) ++ drop f.cursor (held f)) f.bytes) t in
         let r : f.len + length (encoded c) ≤ 64 = omega arith in
         rw (h, k, le-leb (f.len + length (encoded c)) 64 r)
-        (λ i. record { owner = f.owner; bytes = (w ∙ s) i; len = f.len + a i; cursor = f.cursor + a i })
+        (λ i. record { owner = f.owner; bytes = (w ∙ s) i; len = f.len + a i; cursor = f.cursor + a i; mark = Typed })

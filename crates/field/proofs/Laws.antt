@@ -1,4 +1,4 @@
--- Of a field that keeps the rules: an edit is the edit of its text, character by character; it keeps the rules; and the field then
+-- Of a field that keeps the rules: an edit is the edit of its text and mark, character by character; it keeps the rules; and the field then
 -- holds the edited text. Why: the bytes of the edited text are again some scalar values' bytes, of at most 64 in all. Assumes nothing.
 use mathlib.Core.Path.{◌≡◌, refl, sym, ap, ap₂, subst, ◌∙◌}
 use mathlib.Core.Bool.{Bool, true, false, ◌&&◌, cond}
@@ -11,16 +11,19 @@ use lib.ListN.{length, take, drop, length-append, length-drop, length-take}
 use lib.Seq.{take-append_seam, drop-append_seam, length-take-le, take-append-le}
 use Rattle.text.specs.Utf8.{is_scalar, all_scalars, encoded, encoded_all}
 use Rattle.text.specs.Reader.{is_utf8, scalars, scalars_from, run_from}
-use Rattle.arithmetic.proofs.BoolLaws.{and_left, and_right, and_both}
+use Rattle.arithmetic.proofs.BoolLaws.{and_left, and_right, and_both, no_more}
 use Rattle.text.proofs.Complete.{written_well, written_reads}
 use Rattle.text.proofs.Texts.{encodings_join, scalars_join, scalars_part}
-use Rattle.field.specs.Text.{Text, text, bytes_of, caret_of, typed, keyed, before}
-use Rattle.field.specs.Fields.{empty_field, in_range, field_ok, held, put_in, edited, inserted, text_of, with_text}
+use Rattle.field.specs.Text.{Text, text, bytes_of, caret_of, goes_in, typed, keyed, before}
+use Rattle.field.specs.Marks.{takes, mark_after, may_stand, next_mark}
+use Rattle.field.specs.Fields.{empty_field, in_range, text_ok, mark_ok, field_ok, held, put_in, edited, inserted, text_of, with_text, with_mark, unconfirmed}
 use Rattle.arithmetic.specs.Tests.{over}
 use Rattle.field.specs.declared.Field.{Field}
+use Rattle.field.specs.declared.Mark.{Mark}
+use Rattle.field.specs.declared.Mark.TheVariants.{Untouched, Typed, Confirmed}
 use Rattle.field.specs.declared.EditOp.{EditOp}
 use Rattle.field.specs.declared.EditOp.TheVariants.{Backspace, Delete, Left, Right, Home, End}
-use Rattle.field.proofs.Ranges.{length_in_range}
+use Rattle.field.proofs.Ranges.{length_in_range, text_by_the_rules, mark_by_the_rules}
 use Rattle.field.proofs.Parts.{parts, bytes_of_text, parts_are_held, caret_is_after_front, own_text_is_kept}
 use Rattle.field.proofs.Edits.{put_text, edit_of_the_parts}
 
@@ -32,7 +35,7 @@ pub record Fine (l : List ℕ) : Type 0 where
 abbrev pub Good : Text → Type 0
 Good (text b a) = Fine (reverse_aux b a)
 
-module _ (f : Field) (b a : List ℕ) (g : Good (text b a)) where
+module _ (f : Field) (b a : List ℕ) (m : Mark) (g : Good (text b a)) where
   both : (all_scalars (reverse b) ≡ true) × (all_scalars a ≡ true)
   both = scalars_part (reverse b) a (subst (λ (l : List ℕ). all_scalars l ≡ true) (reverse_aux-eq b a) g.proper)
 
@@ -54,16 +57,20 @@ module _ (f : Field) (b a : List ℕ) (g : Good (text b a)) where
       take-append-le (length (encoded_all (reverse b))) (bytes_of (text b a)) (drop (length (bytes_of (text b a))) f.bytes) front_in
       ∙ ap (take (length (encoded_all (reverse b)))) all_of ∙ take-append_seam (encoded_all (reverse b)) (encoded_all a)
 
-  pub with_ok : field_ok (with_text f (text b a)) ≡ true
-  unfolding field_ok in_range with_text caret_of
-  with_ok =
+  with_text_ok : text_ok (with_text f (text b a) m) ≡ true
+  unfolding text_ok in_range with_text caret_of
+  with_text_ok =
       let h1 : is_utf8 (bytes_of (text b a)) ≡ true =
       ap is_utf8 (all_of ∙ sym (encodings_join (reverse b) a)) ∙ written_well (reverse b ++ a) (scalars_join (reverse b) a both.0 both.1) in
       and_both
       (and_both (le-leb (length (bytes_of (text b a))) 64 few) (le-leb (length (encoded_all (reverse b))) (length (bytes_of (text b a))) front_in))
       (and_both (ap is_utf8 taken_all ∙ h1) (ap is_utf8 taken_front ∙ written_well (reverse b) both.0))
 
-  pub with_text_lem : text_of (with_text f (text b a)) ≡ text b a
+  pub with_ok : may_stand m (bytes_of (text b a)) ≡ true → field_ok (with_text f (text b a) m) ≡ true
+  unfolding field_ok mark_ok with_text
+  with_ok w = and_both with_text_ok (ap (may_stand m) taken_all ∙ w)
+
+  pub with_text_lem : text_of (with_text f (text b a) m) ≡ text b a
   unfolding text_of with_text caret_of
   with_text_lem =
       ap₂ text
@@ -71,7 +78,7 @@ module _ (f : Field) (b a : List ℕ) (g : Good (text b a)) where
       (ap (λ (s : List ℕ). scalars (drop (length (encoded_all (reverse b))) s)) (taken_all ∙ all_of)
       ∙ ap scalars (drop-append_seam (encoded_all (reverse b)) (encoded_all a)) ∙ written_reads a both.1)
 
-  pub with_long : length f.bytes ≡ 64 → length (with_text f (text b a)).bytes ≡ 64
+  pub with_long : length f.bytes ≡ 64 → length (with_text f (text b a) m).bytes ≡ 64
   unfolding with_text
   with_long l =
       omega (arith, length-append (bytes_of (text b a)) (drop (length (bytes_of (text b a))) f.bytes), length-drop (length (bytes_of (text b a))) f.bytes, few)
@@ -135,12 +142,35 @@ more c b a h k g =
     }
 
 pub typed_good : (c : ℕ) (t : Text) → Good t → Good (typed c t)
-unfolding typed bytes_of
+unfolding typed goes_in bytes_of
 typed_good c (text b a) g = go (is_scalar c && leb (length (encoded_all (reverse_aux b a)) + length (encoded c)) 64) refl
   where
     go : (k : Bool) → is_scalar c && leb (length (encoded_all (reverse_aux b a)) + length (encoded c)) 64 ≡ k → Good (cond k (text (c ∷ b) a) (text b a))
     go true e = more c b a (and_left _ _ e) (leb-true _ 64 (and_right (is_scalar c) _ e)) g
     go false e = g
+
+-- ---- what changes no text leaves a mark that stands
+
+pub what_takes_nothing_keeps_the_bytes : (op : EditOp) (t : Text) → takes op t ≡ false → bytes_of (keyed op t) ≡ bytes_of t
+unfolding takes keyed bytes_of
+what_takes_nothing_keeps_the_bytes Backspace (text [] a) e = refl
+what_takes_nothing_keeps_the_bytes Backspace (text (c ∷ b) a) e = no_more (sym e)
+what_takes_nothing_keeps_the_bytes Delete (text b []) e = refl
+what_takes_nothing_keeps_the_bytes Delete (text b (c ∷ a)) e = no_more (sym e)
+what_takes_nothing_keeps_the_bytes Left (text [] a) e = refl
+what_takes_nothing_keeps_the_bytes Left (text (c ∷ b) a) e = refl
+what_takes_nothing_keeps_the_bytes Right (text b []) e = refl
+what_takes_nothing_keeps_the_bytes Right (text b (c ∷ a)) e = refl
+what_takes_nothing_keeps_the_bytes Home (text b a) e = refl
+what_takes_nothing_keeps_the_bytes End (text b a) e = ap encoded_all (reverse_aux-reverse_aux-nil a b)
+
+pub what_goes_not_in_keeps_the_bytes : (c : ℕ) (t : Text) → goes_in c t ≡ false → bytes_of (typed c t) ≡ bytes_of t
+unfolding typed
+what_goes_not_in_keeps_the_bytes c t e = rw e
+
+still_stands : (changed : Bool) (m : Mark) {s s' : List ℕ} → (changed ≡ false → s' ≡ s) → may_stand m s ≡ true → may_stand (mark_after changed m) s' ≡ true
+still_stands true m e w = refl
+still_stands false m e w = ap (may_stand m) (e refl) ∙ w
 
 -- The laws. `long` is what the type [u8; 64] gives of a field's bytes.
 module _ (f : Field) (h : field_ok f ≡ true) where
@@ -156,38 +186,48 @@ module _ (f : Field) (h : field_ok f ≡ true) where
     unfolding caret_of
     caret_is_the_texts = let p = parts f h in ap caret_of p.is_text ∙ caret_is_after_front f long p
 
-    pub field_is_its_text : with_text f (text_of f) ≡ f
-    field_is_its_text = let p = parts f h in ap (with_text f) p.is_text ∙ own_text_is_kept f long p
+    pub field_is_its_text : with_text f (text_of f) f.mark ≡ f
+    field_is_its_text = let p = parts f h in ap (λ (t : Text). with_text f t f.mark) p.is_text ∙ own_text_is_kept f long p
 
     -- an edit of the bytes is the edit of the text
-    pub edit_is_by_characters : (op : EditOp) → edited f op ≡ with_text f (keyed op (text_of f))
+    pub edit_is_by_characters : (op : EditOp) → edited f op ≡ with_text f (keyed op (text_of f)) (mark_after (takes op (text_of f)) f.mark)
     unfolding edited
     edit_is_by_characters op =
         let p = parts f h in
-        rw p.ranged (sym (edit_of_the_parts f long p op) ∙ ap (λ (t : Text). with_text f (keyed op t)) (sym p.is_text))
+        rw p.ranged (sym (edit_of_the_parts f long p op) ∙ ap (λ (t : Text). with_text f (keyed op t) (mark_after (takes op t) f.mark)) (sym p.is_text))
 
-    pub insert_is_by_characters : (c : ℕ) → inserted f c ≡ with_text f (typed c (text_of f))
-    unfolding inserted typed
+    pub insert_is_by_characters : (c : ℕ) → inserted f c ≡ with_text f (typed c (text_of f)) (mark_after (goes_in c (text_of f)) f.mark)
+    unfolding inserted typed goes_in
     insert_is_by_characters c =
         let p = parts f h in
         rw (p.ranged, length_is_the_texts) (by (is_scalar c && leb (f.len + length (encoded c)) 64))
       where
-        by : (t : Bool) → cond t (put_in f (encoded c)) f ≡ with_text f (cond t (before c (text_of f)) (text_of f))
-        by true = let p = parts f h in sym (put_text f long p c) ∙ ap (λ (t : Text). with_text f (before c t)) (sym p.is_text)
+        by : (t : Bool) → cond t (put_in f (encoded c)) f ≡ with_text f (cond t (before c (text_of f)) (text_of f)) (mark_after t f.mark)
+        by true = let p = parts f h in sym (put_text f long p c) ∙ ap (λ (t : Text). with_text f (before c t) Typed) (sym p.is_text)
         by false = sym field_is_its_text
 
-    kept_by : (t : Text) → Good t → (field_ok (with_text f t) ≡ true) × (text_of (with_text f t) ≡ t) × (length (with_text f t).bytes ≡ 64)
-    kept_by (text b a) g = (with_ok f b a g, with_text_lem f b a g, with_long f b a g long)
+    -- what is kept by a field with another text, of which its mark stands
+    abbrev Keeps : Text → Field → Type 0
+    Keeps t g = (field_ok g ≡ true) × (text_of g ≡ t) × (length g.bytes ≡ 64)
 
-    edited_keeps : (op : EditOp) → (field_ok (edited f op) ≡ true) × (text_of (edited f op) ≡ keyed op (text_of f)) × (length (edited f op).bytes ≡ 64)
+    kept_by : (t : Text) (m : Mark) → Good t → may_stand m (bytes_of t) ≡ true → Keeps t (with_text f t m)
+    kept_by (text b a) m g w = (with_ok f b a m g w, with_text_lem f b a m g, with_long f b a m g long)
+
+    its_mark_stands : may_stand f.mark (bytes_of (text_of f)) ≡ true
+    unfolding mark_ok
+    its_mark_stands = ap (may_stand f.mark) held_is_the_texts ∙ mark_by_the_rules f h
+
+    edited_keeps : (op : EditOp) → Keeps (keyed op (text_of f)) (edited f op)
     edited_keeps op =
-        subst (λ (g : Field). (field_ok g ≡ true) × (text_of g ≡ keyed op (text_of f)) × (length g.bytes ≡ 64))
-        (sym (edit_is_by_characters op)) (kept_by (keyed op (text_of f)) (keyed_good op (text_of f) (held_good f h)))
+        let t : Text = text_of f in
+        subst (Keeps (keyed op t)) (sym (edit_is_by_characters op))
+        (kept_by (keyed op t) _ (keyed_good op t (held_good f h)) (still_stands (takes op t) f.mark (what_takes_nothing_keeps_the_bytes op t) its_mark_stands))
 
-    inserted_keeps : (c : ℕ) → (field_ok (inserted f c) ≡ true) × (text_of (inserted f c) ≡ typed c (text_of f)) × (length (inserted f c).bytes ≡ 64)
+    inserted_keeps : (c : ℕ) → Keeps (typed c (text_of f)) (inserted f c)
     inserted_keeps c =
-        subst (λ (g : Field). (field_ok g ≡ true) × (text_of g ≡ typed c (text_of f)) × (length g.bytes ≡ 64))
-        (sym (insert_is_by_characters c)) (kept_by (typed c (text_of f)) (typed_good c (text_of f) (held_good f h)))
+        let t : Text = text_of f in
+        subst (Keeps (typed c t)) (sym (insert_is_by_characters c))
+        (kept_by (typed c t) _ (typed_good c t (held_good f h)) (still_stands (goes_in c t) f.mark (what_goes_not_in_keeps_the_bytes c t) its_mark_stands))
 
     pub edit_keeps_the_rules : (op : EditOp) → field_ok (edited f op) ≡ true
     edit_keeps_the_rules op = (edited_keeps op).0
@@ -207,6 +247,15 @@ module _ (f : Field) (h : field_ok f ≡ true) where
     pub insert_keeps_64_bytes : (c : ℕ) → length (inserted f c).bytes ≡ 64
     insert_keeps_64_bytes c = (inserted_keeps c).2
 
+    -- a key that changes the text sets typed, and no other changes the mark
+    pub edit_marks_a_change : (op : EditOp) → (edited f op).mark ≡ mark_after (takes op (text_of f)) f.mark
+    unfolding with_text
+    edit_marks_a_change op = ap (λ (g : Field). g.mark) (edit_is_by_characters op)
+
+    pub insert_marks_a_change : (c : ℕ) → (inserted f c).mark ≡ mark_after (goes_in c (text_of f)) f.mark
+    unfolding with_text
+    insert_marks_a_change c = ap (λ (g : Field). g.mark) (insert_is_by_characters c)
+
     -- and the owner stays
     pub edit_keeps_the_owner : (op : EditOp) → (edited f op).owner ≡ f.owner
     unfolding with_text
@@ -218,9 +267,28 @@ module _ (f : Field) (h : field_ok f ≡ true) where
 
 -- a new field keeps the rules, and its text is empty
 pub empty_field_keeps_the_rules : field_ok empty_field ≡ true
-unfolding empty_field field_ok in_range is_utf8 run_from
+unfolding empty_field field_ok text_ok mark_ok in_range is_utf8 run_from
 empty_field_keeps_the_rules = refl
 
 pub empty_field_has_no_text : text_of empty_field ≡ text [] []
 unfolding empty_field text_of scalars scalars_from
 empty_field_has_no_text = refl
+
+-- another mark keeps the rules where it may stand, and the text
+pub mark_keeps_the_rules : (f : Field) (m : Mark) → field_ok f ≡ true → may_stand m (held f) ≡ true → field_ok (with_mark f m) ≡ true
+unfolding field_ok text_ok mark_ok in_range with_mark
+mark_keeps_the_rules f m h w = and_both (text_by_the_rules f h) w
+
+pub mark_keeps_the_text : (f : Field) (m : Mark) → text_of (with_mark f m) ≡ text_of f
+unfolding text_of with_mark
+mark_keeps_the_text f m = refl
+
+-- so does the next ship
+next_mark_stands : (m : Mark) (s : List ℕ) → may_stand (next_mark m) s ≡ true
+next_mark_stands Untouched s = refl
+next_mark_stands Typed s = refl
+next_mark_stands Confirmed s = refl
+
+pub next_ship_keeps_the_rules : (f : Field) → field_ok f ≡ true → field_ok (unconfirmed f) ≡ true
+unfolding unconfirmed
+next_ship_keeps_the_rules f h = mark_keeps_the_rules f (next_mark f.mark) h (next_mark_stands f.mark (held f))

@@ -11,4 +11,5 @@ pub mod Blanks
 pub mod Parts
 pub mod Edits
 pub mod Laws
+pub mod MarkedChanges
 pub mod Examples

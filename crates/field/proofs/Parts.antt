@@ -12,10 +12,10 @@ use Rattle.arithmetic.proofs.BoolLaws.{and_left, and_right}
 use Rattle.text.proofs.Sound.{read_writes, read_scalars}
 use Rattle.text.proofs.Texts.{encodings_join, rest_is_utf8}
 use Rattle.field.specs.Text.{Text, text, bytes_of, caret_of}
-use Rattle.field.specs.Fields.{in_range, field_ok, held, moved, text_of, with_text}
+use Rattle.field.specs.Fields.{in_range, text_ok, field_ok, held, moved, text_of, with_text}
 use Rattle.arithmetic.specs.Tests.{over}
 use Rattle.field.specs.declared.Field.{Field}
-use Rattle.field.proofs.Ranges.{length_in_range, caret_in_range, rules_are_in_range}
+use Rattle.field.proofs.Ranges.{length_in_range, caret_in_range, text_by_the_rules, rules_are_in_range}
 
 pub bytes_of_text : (b a : List ℕ) → bytes_of (text b a) ≡ encoded_all (reverse b) ++ encoded_all a
 unfolding bytes_of
@@ -44,8 +44,9 @@ split_at_caret f h =
     ∙ take-append-drop f.cursor (held f)
 
 pub parts : (f : Field) → field_ok f ≡ true → Parts f
-unfolding field_ok text_of
-parts f h =
+unfolding text_ok text_of
+parts f rules =
+    let h = text_by_the_rules f rules in
     let r = rules_are_in_range f h in
     let k = and_right (in_range f) (is_utf8 (held f) && is_utf8 (take f.cursor f.bytes)) h in
     let whole : is_utf8 (held f) ≡ true = and_left (is_utf8 (held f)) (is_utf8 (take f.cursor f.bytes)) k in
@@ -77,16 +78,16 @@ module _ (f : Field) (long : length f.bytes ≡ 64) (p : Parts f) where
   text_is_held = bytes_of_text p.front p.back ∙ parts_are_held f p
 
   -- a text of the same bytes: only the caret may differ
-  pub same_bytes_move_the_caret : (t : Text) → bytes_of t ≡ held f → with_text f t ≡ moved f (caret_of t)
+  pub same_bytes_move_the_caret : (t : Text) → bytes_of t ≡ held f → with_text f t f.mark ≡ moved f (caret_of t)
   unfolding with_text moved
   same_bytes_move_the_caret t e =
       let l : length (held f) ≡ f.len = length-take-le f.len f.bytes (omega (arith, length_in_range f p.ranged)) in
       let o : over (held f) f.bytes ≡ f.bytes = ap (λ (n : ℕ). held f ++ drop n f.bytes) l ∙ take-append-drop f.len f.bytes in
-      λ i. record { owner = f.owner; bytes = (ap (λ (s : List ℕ). over s f.bytes) e ∙ o) i; len = (ap length e ∙ l) i; cursor = caret_of t }
+      λ i. record { owner = f.owner; bytes = (ap (λ (s : List ℕ). over s f.bytes) e ∙ o) i; len = (ap length e ∙ l) i; cursor = caret_of t; mark = f.mark }
 
   -- its own text changes nothing
-  pub own_text_is_kept : with_text f (text p.front p.back) ≡ f
+  pub own_text_is_kept : with_text f (text p.front p.back) f.mark ≡ f
   unfolding caret_of moved
   own_text_is_kept =
       same_bytes_move_the_caret (text p.front p.back) text_is_held
-      ∙ (λ i. record { owner = f.owner; bytes = f.bytes; len = f.len; cursor = caret_is_after_front i })
+      ∙ (λ i. record { owner = f.owner; bytes = f.bytes; len = f.len; cursor = caret_is_after_front i; mark = f.mark })

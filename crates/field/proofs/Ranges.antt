@@ -10,7 +10,7 @@ use lib.Seq.{length-take-le}
 use Rattle.text.specs.Steps.{is_tail, front, step_back, step_forward}
 use Rattle.arithmetic.proofs.BoolLaws.{pick_of, and_left, and_right}
 use Rattle.text.proofs.Walks.{back_not_after, front_not_longer}
-use Rattle.field.specs.Fields.{in_range, field_ok, held, step_back_of, step_forward_of}
+use Rattle.field.specs.Fields.{in_range, text_ok, mark_ok, field_ok, held, step_back_of, step_forward_of}
 use Rattle.field.specs.declared.Field.{Field}
 
 module _ (f : Field) (h : in_range f ≡ true) where
@@ -43,6 +43,14 @@ forth_is_within f h l =
     (λ e. omega (arith, ltb-true f.cursor (length (held f)) e, front_not_longer is_tail (drop (f.cursor + 1) (held f)), length-drop (f.cursor + 1) (held f), held_is_long f h l))
     (λ _. caret_in_range f h)
 
-pub rules_are_in_range : (f : Field) → field_ok f ≡ true → in_range f ≡ true
+pub text_by_the_rules : (f : Field) → field_ok f ≡ true → text_ok f ≡ true
 unfolding field_ok
+text_by_the_rules f h = and_left (text_ok f) (mark_ok f) h
+
+pub mark_by_the_rules : (f : Field) → field_ok f ≡ true → mark_ok f ≡ true
+unfolding field_ok
+mark_by_the_rules f h = and_right (text_ok f) (mark_ok f) h
+
+pub rules_are_in_range : (f : Field) → text_ok f ≡ true → in_range f ≡ true
+unfolding text_ok
 rules_are_in_range f h = and_left (in_range f) _ h

@@ -1,12 +1,10 @@
 -- Document 01, **Metres**: one to three digits, optionally a point and one or two digits, read as whole centimetres. Document 02, **Wish 1**:
 -- a comma reads as a point, spaces before and after are skipped, and nothing but spaces counts as empty.
 use Rattle.std.specs.Prelude.{ℕ, zero, suc, ◌+◌, ◌-◌, ◌*◌, Bool, ◌&&◌, cond, List, [], ◌∷◌, map, reverse, eqb, length, get_or, drop}
-use Rattle.arithmetic.specs.Tests.{within}
+use Rattle.arithmetic.specs.Tests.{same, within}
 use Rattle.text.specs.Steps.{front}
 use Rattle.text.specs.Refusal.{Answer, accepted, refused}
-use Rattle.text.specs.declared.refusal.Refusal.TheVariants.{Broken, Empty, Unread}
-use Rattle.field.specs.Fields.{field_ok, held}
-use Rattle.field.specs.declared.Field.{Field}
+use Rattle.text.specs.declared.refusal.Refusal.TheVariants.{Empty, Unread}
 
 abbrev pub is_digit : ℕ → Bool
 is_digit b = within 48 57 b
@@ -64,6 +62,6 @@ pointed s = map point_for s
 unfoldable pub metres_of : List ℕ → Answer ℕ
 metres_of s = plain_metres (pointed (trimmed s))
 
--- The centimetres of a field; 1 for one that breaks the rules.
-unfoldable pub field_metres : Field → Answer ℕ
-field_metres f = cond (field_ok f) (metres_of (held f)) (refused Broken 0)
+-- The text reads as metres.
+unfoldable pub reads : List ℕ → Bool
+reads s = same (metres_of s).number 0

@@ -1,5 +1,5 @@
 -- Document 01, **Field**: a text with a caret, and what a key makes of it, by characters. Characters are Unicode scalar values.
-use Rattle.std.specs.Prelude.{ℕ, ◌+◌, ◌&&◌, cond, leb, length}
+use Rattle.std.specs.Prelude.{ℕ, ◌+◌, Bool, ◌&&◌, cond, leb, length}
 use mathlib.Core.List.{List, [], ◌∷◌, reverse, reverse_aux}
 use Rattle.text.specs.Utf8.{is_scalar, encoded, encoded_all}
 use Rattle.field.specs.declared.EditOp.{EditOp}
@@ -20,8 +20,11 @@ abbrev pub before : ℕ → Text → Text
 before c (text b a) = text (c ∷ b) a
 
 -- A character goes in at the caret; a number that is no character, and one whose bytes would pass 64 in all, does not.
+unfoldable pub goes_in : ℕ → Text → Bool
+goes_in c t = is_scalar c && leb (length (bytes_of t) + length (encoded c)) 64
+
 unfoldable pub typed : ℕ → Text → Text
-typed c t = cond (is_scalar c && leb (length (bytes_of t) + length (encoded c)) 64) (before c t) t
+typed c t = cond (goes_in c t) (before c t) t
 
 -- One character at a time.
 unfoldable pub keyed : EditOp → Text → Text

@@ -6,9 +6,9 @@ pub mod metres;
 ghost use Rattle.std.specs.Prelude.{◌≡◌, ◌≤◌, true, false, Ok, Err};
 ghost use Rattle.std.specs.Fn.{FnOnceReturnsAtMut};
 ghost use Rattle.text.specs.declared.refusal.Refusal.TheVariants.{Broken};
+ghost use Rattle.field.specs.declared.Mark.TheVariants.{Confirmed};
 ghost use Rattle.field.specs.declared.Edited.{Edited};
-ghost use Rattle.field.specs.Fields.{empty_field, own_field, held, in_range, field_ok, cut_out, inserted, edited, shown_of, edit_answer, insert_answer, answer_of};
-ghost use Rattle.field.specs.Metres.{field_metres};
+ghost use Rattle.field.specs.Fields.{empty_field, own_field, held, in_range, text_ok, mark_ok, field_ok, with_mark, unconfirmed, cut_out, inserted, edited, shown_of, edit_answer, insert_answer, answer_of, field_metres, view_of, metres_of_view};
 ghost use Rattle.text.specs.Refusal.{answered, verdict_of};
 
 use text::refusal::Refusal;
@@ -32,7 +32,15 @@ pub enum EditOp {
     End,
 }
 
-// A text of at most 64 bytes. `cursor` is the caret, in bytes from the start.
+// What became of a field's text: nothing yet, a key changed it, or it was confirmed as it stands.
+#[derive(Clone, Copy, Debug, PartialEq, Eq)]
+pub enum Mark {
+    Untouched,
+    Typed,
+    Confirmed,
+}
+
+// A text of at most 64 bytes, and its mark. `cursor` is the caret, in bytes from the start.
 // Kept: an array with its length, document 01's own form.
 #[derive(Clone, Copy, Debug, PartialEq, Eq)]
 pub struct Field {
@@ -40,6 +48,7 @@ pub struct Field {
     pub bytes: [u8; 64],
     pub len: u8,
     pub cursor: u8,
+    pub mark: Mark,
 }
 
 // The answer of an edit asked by a caller, with the field beside it.
@@ -61,6 +70,7 @@ impl Field {
             bytes: [0u8; 64],
             len: 0,
             cursor: 0,
+            mark: Mark::Untouched,
         }
     }
 
@@ -90,9 +100,9 @@ impl Field {
         (self.len <= 64) & (self.cursor <= self.len)
     }
 
-    // Whether the field keeps the rules for one field.
-    pub fn sound(self) -> bool
-        ensures { result ≡ field_ok self }
+    // Whether text and caret keep their rules.
+    fn text_sound(self) -> bool
+        ensures { result ≡ text_ok self }
     {
         if !self.in_range() {
             return false;
@@ -100,6 +110,24 @@ impl Field {
         let whole = utf8::is_utf8(self.held());
         let before = utf8::is_utf8(&self.bytes[..self.cursor as usize]);
         whole & before
+    }
+
+    // Whether the mark may stand beside the text: what is confirmed reads as metres.
+    fn mark_sound(self) -> bool
+        ensures { result ≡ mark_ok self }
+    {
+        match self.mark {
+            Mark::Confirmed => metres::metres_of(self.held()).is_ok(),
+            _ => true,
+        }
+    }
+
+    // Whether the field keeps the rules for one field.
+    #[tactic(auto, unfolding(crate::specs::Fields::field_ok))]
+    pub fn sound(self) -> bool
+        ensures { result ≡ field_ok self }
+    {
+        self.text_sound() && self.mark_sound()
     }
 
     // The field without the bytes of its text from `from` to `to`, the caret at `from`.
@@ -111,6 +139,9 @@ impl Field {
         self.bytes.copy_within(to..len, from);
         self.len -= (to - from) as u8;
         self.cursor = from as u8;
+        if from < to {
+            self.mark = Mark::Typed;
+        }
         self
     }
 
@@ -158,6 +189,7 @@ impl Field {
         self.bytes[at..at + n].copy_from_slice(&e.bytes[..n]);
         self.len += e.len;
         self.cursor += e.len;
+        self.mark = Mark::Typed;
         self
     }
 
@@ -263,5 +295,40 @@ impl Field {
             return Err(Refusal::Broken);
         }
         metres::metres_of(self.held())
+    }
+
+    // The field with its text confirmed. It asks nothing of the text: who confirms one reads its metres first.
+    #[tactic(auto, unfolding(crate::specs::Fields::with_mark))]
+    pub fn confirmed(self) -> Field
+        ensures { result ≡ with_mark self Confirmed }
+    {
+        Field {
+            mark: Mark::Confirmed,
+            ..self
+        }
+    }
+
+    // The field for the next ship: the text stays, and is confirmed no more.
+    #[tactic(auto, unfolding(crate::specs::Fields::with_mark, crate::specs::Fields::unconfirmed))]
+    pub fn unconfirmed(self) -> Field
+        ensures { result ≡ unconfirmed self }
+    {
+        match self.mark {
+            Mark::Confirmed => Field {
+                mark: Mark::Untouched,
+                ..self
+            },
+            _ => self,
+        }
+    }
+
+    // The confirmed text as metres. It asks nothing of the field: one that keeps the rules is refused by no other word.
+    pub fn confirmed_metres(self) -> Result<u32, Refusal>
+        ensures { answered 0 result ≡ metres_of_view (view_of self) }
+    {
+        match self.mark {
+            Mark::Confirmed => metres::metres_of(self.held()),
+            _ => Err(Refusal::Unconfirmed),
+        }
     }
 }

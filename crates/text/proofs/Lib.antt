@@ -21,3 +21,4 @@ pub mod LineParts
 pub mod LineStarts
 pub mod LineRows
 pub mod LineLaws
+pub mod Refusals

@@ -1,7 +1,7 @@
 -- Document 01, "Refusal words", and those that document 02 adds: the number of each word, and what an answer tells.
 use Rattle.std.specs.Prelude.{ℕ, Err, Ok, Result}
 use Rattle.text.specs.declared.refusal.Refusal.{Refusal}
-use Rattle.text.specs.declared.refusal.Refusal.TheVariants.{Broken, Large, Missing, Full, Root, Foreign, Long, Fieldless, Empty, Unread, IllFormed, Wide, Short}
+use Rattle.text.specs.declared.refusal.Refusal.TheVariants.{Broken, Large, Missing, Full, Root, Foreign, Long, Fieldless, Empty, Unread, IllFormed, Wide, Short, Unconfirmed}
 
 -- The table.
 abbrev pub number_of : Refusal → ℕ
@@ -18,6 +18,7 @@ number_of Unread = 10
 number_of IllFormed = 11
 number_of Wide = 12
 number_of Short = 13
+number_of Unconfirmed = 14
 
 -- The number of an answer: 0 where the call is accepted.
 abbrev pub verdict_of : {A : Type 0} → Result A Refusal → ℕ

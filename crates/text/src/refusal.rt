@@ -18,6 +18,7 @@ pub enum Refusal {
     IllFormed = 11,
     Wide = 12,
     Short = 13,
+    Unconfirmed = 14,
 }
 
 impl Refusal {

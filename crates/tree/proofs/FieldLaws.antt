@@ -4,23 +4,26 @@
 use Rattle.std.specs.Prelude.{None, Option, Some}
 use mathlib.Core.Path.{◌≡◌, refl, sym, ap, ◌∙◌, subst}
 use mathlib.Core.Bool.{Bool, true, false, not, ◌&&◌, cond}
-use mathlib.Core.List.{List, [], ◌∷◌}
+use mathlib.Core.List.{List, [], ◌∷◌, map}
 use Prim.Native.Nat.{ℕ, suc, ◌+◌, ◌≤◌, ◌<◌}
 use native.Mathlib.Omega.{arith}
 use lib.ListN.{length}
 use Rattle.arithmetic.proofs.BoolLaws.{and_left, and_right}
-use Rattle.field.specs.Text.{Text, text}
-use Rattle.field.specs.Fields.{empty_field, field_ok, in_range, text_of, own_field}
+use Rattle.field.specs.Text.{Text}
+use Rattle.field.specs.Marks.{Marked, new_marked}
+use Rattle.field.specs.Fields.{empty_field, field_ok, text_ok, mark_ok, in_range, text_of, marked_of, own_field}
 use Rattle.field.proofs.Laws.{empty_field_keeps_the_rules, empty_field_has_no_text}
 use Rattle.field.specs.declared.NodeId.{NodeId}
 use Rattle.field.specs.declared.Field.{Field}
+use Rattle.field.specs.declared.Mark.{Mark}
+use Rattle.field.specs.declared.Mark.TheVariants.{Untouched}
 use Rattle.arithmetic.specs.Tests.{same, all}
 use Rattle.arena.specs.Slots.{Slots, at, is_live, id_at, is_id, same_id}
 use Rattle.arena.specs.Fields.{first_field, owns, field_of, owner_dead, reclaimed, vacant, change_first, claimed}
 use Rattle.arena.specs.Rules.{owners_well}
 use Rattle.arena.specs.Forest.{Forest, nil, node, has_both, has_id}
 use Rattle.boxes.specs.Nodes.{Info, bit, has_field, with_field, change_of}
-use Rattle.tree.proofs.Relation.{AllFields, text_in}
+use Rattle.tree.proofs.Relation.{AllFields, marked_in}
 use Rattle.arithmetic.proofs.TestLaws.{same_yes, same_no, same_refl, δ-same, eq_cases, zero_cases, bool_cases}
 use Rattle.arena.proofs.Forests.ForestLaws.{cnt, wt}
 use Rattle.arena.proofs.Forests.Relations.{Rel, once}
@@ -57,13 +60,19 @@ pub a_test_of_each_is_of_all : (p : Field → Bool) (fs : List Field) → AllFie
 a_test_of_each_is_of_all p [] e = refl
 a_test_of_each_is_of_all p (f ∷ fs) e = both_true (p f) (all p fs) e.0 (a_test_of_each_is_of_all p fs e.1)
 
-pub an_edit_keeps_of_each : (P : Field → Type 0) (p : Field → Bool) (c : Field → Field) → ((f : Field) → P f → P (c f)) → (fs : List Field) → AllFields P fs → AllFields P (change_first p c fs)
-an_edit_keeps_of_each P p c e [] h = tt
-an_edit_keeps_of_each P p c e (f ∷ fs) h = bool_cases (p f) (λ q. rw q (e f h.0, h.1)) (λ q. rw q (h.0, an_edit_keeps_of_each P p c e fs h.1))
+-- the one that is changed is the first that passes the test
+pub an_edit_keeps_of_each : (P : Field → Type 0) (p : Field → Bool) (c : Field → Field) (fs : List Field) → ((f : Field) → first_field p fs ≡ Some f → P f → P (c f)) → AllFields P fs → AllFields P (change_first p c fs)
+an_edit_keeps_of_each P p c [] e h = tt
+an_edit_keeps_of_each P p c (f ∷ fs) e h = bool_cases (p f) (λ q. rw q (e f (rw q) h.0, h.1)) (λ q. rw q (h.0, an_edit_keeps_of_each P p c fs (λ g k. e g (rw q k)) h.1))
 
 pub an_edit_keeps_the_number_of_fields : (p : Field → Bool) (c : Field → Field) (fs : List Field) → length (change_first p c fs) ≡ length fs
 an_edit_keeps_the_number_of_fields p c [] = refl
 an_edit_keeps_the_number_of_fields p c (f ∷ fs) = bool_cases (p f) (λ q. rw q) (λ q. rw q (ap suc (an_edit_keeps_the_number_of_fields p c fs)))
+
+-- every field is changed
+pub a_change_of_all_keeps_of_each : (P : Field → Type 0) (c : Field → Field) → ((f : Field) → P f → P (c f)) → (fs : List Field) → AllFields P fs → AllFields P (map c fs)
+a_change_of_all_keeps_of_each P c e [] h = tt
+a_change_of_all_keeps_of_each P c e (f ∷ fs) h = (e f h.0, a_change_of_all_keeps_of_each P c e fs h.1)
 
 -- ---- counts
 
@@ -120,12 +129,12 @@ abbrev is_vacant : Option NodeId → Bool
 is_vacant None = true
 is_vacant (Some d) = false
 
-vacant_by_owner : (o : Option NodeId) (bytes : List ℕ) (len cursor : ℕ) → vacant (record { owner = o; bytes = bytes; len = len; cursor = cursor }) ≡ is_vacant o
-vacant_by_owner None bytes len cursor = refl
-vacant_by_owner (Some d) bytes len cursor = refl
+vacant_by_owner : (o : Option NodeId) (bytes : List ℕ) (len cursor : ℕ) (mark : Mark) → vacant (record { owner = o; bytes = bytes; len = len; cursor = cursor; mark = mark }) ≡ is_vacant o
+vacant_by_owner None bytes len cursor mark = refl
+vacant_by_owner (Some d) bytes len cursor mark = refl
 
 vacant_is : (f : Field) → vacant f ≡ is_vacant f.owner
-vacant_is f = vacant_by_owner f.owner f.bytes f.len f.cursor
+vacant_is f = vacant_by_owner f.owner f.bytes f.len f.cursor f.mark
 
 nobody_owns : (o : Option NodeId) (d : NodeId) → is_vacant o ≡ true → is_id o d ≡ false
 nobody_owns None d e = refl
@@ -223,7 +232,7 @@ a_claim_keeps_the_number_of_fields d fs = an_edit_keeps_the_number_of_fields vac
 
 pub a_claim_keeps_of_each : (P : Field → Type 0) (d : NodeId) → P (own_field d) → (fs : List Field) → AllFields P fs → AllFields P (claimed d fs)
 unfolding claimed
-a_claim_keeps_of_each P d e fs h = an_edit_keeps_of_each P vacant (λ (f : Field). own_field d) (λ f _. e) fs h
+a_claim_keeps_of_each P d e fs h = an_edit_keeps_of_each P vacant (λ (f : Field). own_field d) fs (λ f _ _. e) h
 
 pub a_claim_keeps_a_test : (p : Field → Bool) (d : NodeId) → p (own_field d) ≡ true → (fs : List Field) → all p fs ≡ true → all p (claimed d fs) ≡ true
 a_claim_keeps_a_test p d e fs h = a_test_of_each_is_of_all p (claimed d fs) (a_claim_keeps_of_each (λ f. p f ≡ true) d e fs (a_test_of_all_is_of_each p fs h))
@@ -231,12 +240,12 @@ a_claim_keeps_a_test p d e fs h = a_test_of_each_is_of_all p (claimed d fs) (a_c
 -- ---- the rules
 
 pub a_nodes_new_field_is_ok : (d : NodeId) → field_ok (own_field d) ≡ true
-unfolding field_ok in_range empty_field
+unfolding field_ok text_ok mark_ok in_range empty_field
 a_nodes_new_field_is_ok d = empty_field_keeps_the_rules
 
-pub a_nodes_new_field_has_no_text : (d : NodeId) → text_of (own_field d) ≡ text [] []
+pub a_nodes_new_field_is_newly_marked : (d : NodeId) → marked_of (own_field d) ≡ new_marked
 unfolding text_of empty_field
-a_nodes_new_field_has_no_text d = empty_field_has_no_text
+a_nodes_new_field_is_newly_marked d = ap (λ (t : Text). record { text = t; mark = Untouched }) empty_field_has_no_text
 
 -- no two fields with one owner: each id owns at most one
 none_owned_passes : (d : NodeId) (fs : List Field) → owned d fs ≡ 0 → all (λ (g : Field). not (is_id g.owner d)) fs ≡ true
@@ -257,14 +266,14 @@ abbrev alone_in : List Field → Option NodeId → Bool
 alone_in fs None = true
 alone_in fs (Some d) = all (λ (g : Field). not (is_id g.owner d)) fs
 
-owners_by_owner : (o : Option NodeId) (bytes : List ℕ) (len cursor : ℕ) (fs : List Field)
-    → owners_well (record { owner = o; bytes = bytes; len = len; cursor = cursor } ∷ fs) ≡ (alone_in fs o && owners_well fs)
+owners_by_owner : (o : Option NodeId) (bytes : List ℕ) (len cursor : ℕ) (mark : Mark) (fs : List Field)
+    → owners_well (record { owner = o; bytes = bytes; len = len; cursor = cursor; mark = mark } ∷ fs) ≡ (alone_in fs o && owners_well fs)
 unfolding owners_well
-owners_by_owner None bytes len cursor fs = refl
-owners_by_owner (Some d) bytes len cursor fs = refl
+owners_by_owner None bytes len cursor mark fs = refl
+owners_by_owner (Some d) bytes len cursor mark fs = refl
 
 owners_first : (f : Field) (fs : List Field) → owners_well (f ∷ fs) ≡ (alone_in fs f.owner && owners_well fs)
-owners_first f fs = owners_by_owner f.owner f.bytes f.len f.cursor fs
+owners_first f fs = owners_by_owner f.owner f.bytes f.len f.cursor f.mark fs
 
 alone_counts : (o : Option NodeId) (fs : List Field) → alone_in fs o ≡ true → (d : NodeId) → is_id o d ≡ true → owned d fs ≡ 0
 alone_counts None fs a d e = let z : ◌≡◌ {A = ℕ} 0 1 = cc in absurd (omega arith)
@@ -365,10 +374,10 @@ module _ {X : Type 0} where
       rw (b, no, no_id_without_its_index d sib (omega arith)) (bool_cases (has_id d cs) (λ w. let h'' = rw w at h' in rw w (omega arith)) (λ w. let h'' = rw w at h' in rw w (omega arith)))))
 
   module _ {n : ℕ} {s : Slots} {free : ℕ} {t : Forest X} {fl : List ℕ} (r : Rel n s free t fl) where
-    one_or_the_other : (o : Option NodeId) (bytes : List ℕ) (len cursor : ℕ)
-        → bit (vacant (cond (owner_dead n s o) empty_field (record { owner = o; bytes = bytes; len = len; cursor = cursor }))) + wt (hers o) t ≡ 1
-    one_or_the_other None bytes len cursor = let z = sum_of_none t in omega arith
-    one_or_the_other (Some d) bytes len cursor =
+    one_or_the_other : (o : Option NodeId) (bytes : List ℕ) (len cursor : ℕ) (mark : Mark)
+        → bit (vacant (cond (owner_dead n s o) empty_field (record { owner = o; bytes = bytes; len = len; cursor = cursor; mark = mark }))) + wt (hers o) t ≡ 1
+    one_or_the_other None bytes len cursor mark = let z = sum_of_none t in omega arith
+    one_or_the_other (Some d) bytes len cursor mark =
         let o = once r d.index in
         let c = id_count d t (omega arith) in
         let l = live_just_where_a_node_has_it r d in
@@ -381,7 +390,7 @@ module _ {X : Type 0} where
     vacant_or_owned [] = omega arith
     vacant_or_owned (f ∷ fs) =
         let I = vacant_or_owned fs in
-        let o = one_or_the_other f.owner f.bytes f.len f.cursor in omega arith
+        let o = one_or_the_other f.owner f.bytes f.len f.cursor f.mark in omega arith
 
     -- every field is vacant after the clearing, or a live node's
     pub vacant_fields_and_nodes_with_one : (has : X → Bool) (fs : List Field) → owners_well fs ≡ true
@@ -399,14 +408,14 @@ module _ {X : Type 0} where
 
 -- the fields hold the node's text
 abbrev pub Texted : List Field → ℕ → ℕ → Info → Type 0
-Texted fs i g x = x.text ≡ text_in (field_of (record { index = i; generation = g }) fs)
+Texted fs i g x = x.marked ≡ marked_in (field_of (record { index = i; generation = g }) fs)
 
-has_by_field : (x : Info) (m : Option Field) → has_field (with_field x (text_in m)) ≡ is_field m
+has_by_field : (x : Info) (m : Option Field) → has_field (with_field x (marked_in m)) ≡ is_field m
 has_by_field x None = refl
 has_by_field x (Some f) = refl
 
-pub a_node_with_a_text_has_a_field : (x : Info) (m : Option Field) → x.text ≡ text_in m → has_field x ≡ is_field m
-a_node_with_a_text_has_a_field x m e = ap (λ (z : Option Text). has_field (with_field x z)) e ∙ has_by_field x m
+pub a_node_with_a_text_has_a_field : (x : Info) (m : Option Field) → x.marked ≡ marked_in m → has_field x ≡ is_field m
+a_node_with_a_text_has_a_field x m e = ap (λ (z : Option Marked). has_field (with_field x z)) e ∙ has_by_field x m
 
 pub who_has_no_field_owns_nothing : (d : NodeId) (fs : List Field) → field_of d fs ≡ None → owned d fs ≡ 0
 unfolding field_of
@@ -440,10 +449,10 @@ module _ {n : ℕ} {s : Slots} {free : ℕ} {t : Forest Info} {fl : List ℕ} (r
       (nodes_have_their_slots_generation r)
 
   pub a_field_made_is_an_empty_text : (fs : List Field) (d : NodeId) → has_id d t ≡ true → field_of d fs ≡ None → (f : Field) → first_field vacant (reclaimed n s fs) ≡ Some f
-      → AllF (Texted fs) t → AllF (Texted (claimed d (reclaimed n s fs))) (change_of d (λ x. with_field x (Some (text [] []))) t)
+      → AllF (Texted fs) t → AllF (Texted (claimed d (reclaimed n s fs))) (change_of d (λ x. with_field x (Some new_marked)) t)
   a_field_made_is_an_empty_text fs d live none f some tx =
       let R : List Field = reclaimed n s fs in
-      let u : ℕ → ℕ → Info → Info = λ i g x. cond (has_both d i g) (with_field x (Some (text [] []))) x in
+      let u : ℕ → ℕ → Info → Info = λ i g x. cond (has_both d i g) (with_field x (Some new_marked)) x in
       let L : ℕ → ℕ → Info → Type 0 = λ i g x. is_live n s (record { index = i; generation = g }) ≡ true in
       let ld : is_live n s d ≡ true = live_just_where_a_node_has_it r d ∙ live in
       let z : owned d R ≡ 0 = (clearing_leaves_a_live_nodes_field n s fs d ld).1 ∙ who_has_no_field_owns_nothing d fs none in
@@ -453,11 +462,11 @@ module _ {n : ℕ} {s : Slots} {free : ℕ} {t : Forest Info} {fl : List ℕ} (r
       let e : NodeId = record { index = i; generation = g } in
       let h = to_have_an_id_is_to_be_named_by_it d i g in
       bool_cases (same_id d e)
-      (λ b. subst (λ (c : Bool). Texted (claimed d R) i g (cond c (with_field x (Some (text [] []))) x)) (sym (h ∙ b))
-      (subst (λ (y : NodeId). Some (text [] []) ≡ text_in (field_of y (claimed d R))) (one_id_is_the_other d e b)
-      (sym (ap text_in own ∙ ap (λ (y : Text). Some y) (a_nodes_new_field_has_no_text d)))))
-      (λ b. subst (λ (c : Bool). Texted (claimed d R) i g (cond c (with_field x (Some (text [] []))) x)) (sym (h ∙ b))
-      (q.0 ∙ ap text_in (sym ((a_claim_leaves_other_nodes_fields d e R b).0 ∙ (clearing_leaves_a_live_nodes_field n s fs e q.1).0)))))
+      (λ b. subst (λ (c : Bool). Texted (claimed d R) i g (cond c (with_field x (Some new_marked)) x)) (sym (h ∙ b))
+      (subst (λ (y : NodeId). Some new_marked ≡ marked_in (field_of y (claimed d R))) (one_id_is_the_other d e b)
+      (sym (ap marked_in own ∙ ap (λ (y : Marked). Some y) (a_nodes_new_field_is_newly_marked d)))))
+      (λ b. subst (λ (c : Bool). Texted (claimed d R) i g (cond c (with_field x (Some new_marked)) x)) (sym (h ∙ b))
+      (q.0 ∙ ap marked_in (sym ((a_claim_leaves_other_nodes_fields d e R b).0 ∙ (clearing_leaves_a_live_nodes_field n s fs e q.1).0)))))
       (all_both (Texted fs) L t tx nodes_ids_are_live))
 
 -- ---- an edit of a node's field, which keeps the owner
@@ -500,3 +509,20 @@ module _ (c : Field → Field) (keeps : (f : Field) → (c f).owner ≡ f.owner)
   pub an_edit_keeps_owners_apart : (fs : List Field) → owners_well fs ≡ true → owners_well (change_first (owns d) c fs) ≡ true
   an_edit_keeps_owners_apart fs e =
       owners_are_well_if_each_owns_one_at_most (change_first (owns d) c fs) (λ x. let a = each_id_owns_one_at_most fs e x in let b = an_edit_keeps_what_each_id_owns x fs in omega arith)
+
+  -- every field edited
+  pub a_change_of_all_is_of_each_nodes_field : (e : NodeId) (fs : List Field) → field_of e (map c fs) ≡ edit_in c (field_of e fs)
+  unfolding field_of
+  a_change_of_all_is_of_each_nodes_field e [] = refl
+  a_change_of_all_is_of_each_nodes_field e (f ∷ fs) =
+      bool_cases (owns e f)
+      (λ b. rw (owns_edited e f, b))
+      (λ b. rw (owns_edited e f, b) (a_change_of_all_is_of_each_nodes_field e fs))
+
+  a_change_of_all_keeps_what_each_id_owns : (e : NodeId) (fs : List Field) → owned e (map c fs) ≡ owned e fs
+  a_change_of_all_keeps_what_each_id_owns e [] = refl
+  a_change_of_all_keeps_what_each_id_owns e (f ∷ fs) = rw (owns_edited e f) (ap (λ (m : ℕ). bit (owns e f) + m) (a_change_of_all_keeps_what_each_id_owns e fs))
+
+  pub a_change_of_all_keeps_owners_apart : (fs : List Field) → owners_well fs ≡ true → owners_well (map c fs) ≡ true
+  a_change_of_all_keeps_owners_apart fs e =
+      owners_are_well_if_each_owns_one_at_most (map c fs) (λ x. let a = each_id_owns_one_at_most fs e x in let b = a_change_of_all_keeps_what_each_id_owns x fs in omega arith)

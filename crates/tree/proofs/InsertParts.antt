@@ -33,7 +33,7 @@ use Rattle.boxes.proofs.Styles.Rounds.{Worn}
 use Rattle.boxes.proofs.Styles.WearLaws.{a_stored_state_is_there, other_states_stay, a_stored_layout_is_there, other_layouts_stay, a_fresh_table_has_no_patch}
 use Rattle.tree.proofs.StateLaws.{a_stored_state_keeps_of_each}
 use Rattle.tree.proofs.WellLaws.{WellIn, a_bare_slot_is_well}
-use Rattle.tree.proofs.Relation.{Below, BelowMaybe, Links, Naming, Styled, Texts, text_in}
+use Rattle.tree.proofs.Relation.{Below, BelowMaybe, Links, Naming, Styled, Texts, marked_in}
 use Rattle.tree.proofs.GivenIds.{NoEpochFalls, given_ids_stay_given, given_owners_stay_given, ruled_fields_stay_ruled, a_given_id_is_not_a_free_slots, a_free_slots_id_has_no_field}
 
 -- the forest with a new last child of the node that has the id, in the first free slot and of name m
@@ -139,8 +139,8 @@ module _ {k : ℕ} {u : Ui} {t : Forest Info} (L : Links k u t) (d : NodeId) (h 
     eight = X.eight;
     ruled = ruled_fields_stay_ruled u.slots t (insert_at u d.index).slots (with_child u d m t) no_epoch_falls_by_an_insertion u.fields X.ruled;
     owners = X.owners;
-    texts = with_a_child_all (λ i g x. x.text ≡ text_in (field_of (record { index = i; generation = g }) u.fields)) X.texts
-        (ap text_in (sym (a_free_slots_id_has_no_field u.slots t u.free no_node_has_the_slot_taken u.fields X.ruled)));
+    texts = with_a_child_all (λ i g x. x.marked ≡ marked_in (field_of (record { index = i; generation = g }) u.fields)) X.texts
+        (ap marked_in (sym (a_free_slots_id_has_no_field u.slots t u.free no_node_has_the_slot_taken u.fields X.ruled)));
   }
 
 -- ---- names

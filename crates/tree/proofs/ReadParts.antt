@@ -10,15 +10,16 @@ use native.Mathlib.Omega.{arith}
 use lib.ListN.{length}
 use Rattle.text.specs.Refusal.{Answer, accepted, refused}
 use Rattle.text.specs.declared.refusal.Refusal.TheVariants.{Missing}
-use Rattle.field.specs.Text.{Text, bytes_of, caret_of}
-use Rattle.field.specs.Fields.{field_ok, shown_of, text_of}
-use Rattle.field.specs.Metres.{metres_of, field_metres}
+use Rattle.field.specs.Text.{bytes_of, caret_of}
+use Rattle.field.specs.Fields.{field_ok, shown_of, text_of, marked_of, field_metres}
+use Rattle.field.specs.Metres.{metres_of}
+use Rattle.field.specs.Marks.{Marked}
 use Rattle.field.specs.declared.NodeId.{NodeId}
 use Rattle.field.specs.declared.Field.{Field}
 use Rattle.field.proofs.Laws.{held_is_the_texts, length_is_the_texts, caret_is_the_texts}
 use Rattle.arena.specs.Forest.{Forest, nil, node, has_both, has_id, kids_of, find, ids, first_id, next_id, size}
 use Rattle.boxes.specs.Nodes.{Info}
-use Rattle.boxes.specs.History.{of_text, of_node, padded}
+use Rattle.boxes.specs.History.{of_marked, of_node, padded}
 use Rattle.arena.specs.Slots.{NIL, Slots, at}
 use Rattle.boxes.specs.Styles.{no_rect, layout_at}
 use Rattle.arena.specs.Fields.{first_field, owns, field_of, Shown, no_text}
@@ -33,7 +34,7 @@ use Rattle.arena.proofs.Forests.Orders.{rel_size}
 use Rattle.arena.proofs.Forests.Ids.{live_just_where_a_node_has_it, live_id, kids_of_a_live_id, slots_id_is_live, find_nothing, find_known}
 use Rattle.arena.proofs.Forests.ChildLinks.{first_link, no_node_is_none, children_segment, first_child_of_a_live_id, next_sibling_of_a_live_id}
 use Rattle.boxes.proofs.Layouts.PassLaws.{Boxed}
-use Rattle.tree.proofs.Relation.{Ruled, AllFields, text_in, Links, Texts}
+use Rattle.tree.proofs.Relation.{Ruled, AllFields, marked_in, Links, Texts}
 
 -- the children of a node in order, by the calls for the first child and the next sibling
 abbrev pub siblings : ℕ → Ui → Option NodeId → List NodeId
@@ -96,37 +97,37 @@ module _ {k : ℕ} {u : Ui} {t : Forest Info} (L : Links k u t) (b : broken u �
   -- ---- fields
 
   module _ (X : Texts u.slots u.fields t) where
-    -- what reads a field by its text reads the node's text
-    pub a_read_of_the_field_answers_of_the_text : {A : Type 0} (none : A) (read : Field → Outcome A) (said : Text → Answer A)
-        → ((f : Field) → field_ok f ≡ true → length f.bytes ≡ 64 → (read f).answer ≡ said (text_of f))
-        → (d : NodeId) → (on_field u d none read).answer ≡ of_node none (λ x. of_text none said x.text) (find d t)
+    -- what reads a field by its text and mark reads the node's
+    pub a_read_of_the_field_answers_of_the_text : {A : Type 0} (none : A) (read : Field → Outcome A) (said : Marked → Answer A)
+        → ((f : Field) → field_ok f ≡ true → length f.bytes ≡ 64 → (read f).answer ≡ said (marked_of f))
+        → (d : NodeId) → (on_field u d none read).answer ≡ of_node none (λ x. of_marked none said x.marked) (find d t)
     unfolding on_field field_of
     a_read_of_the_field_answers_of_the_text none read said law d =
         a_call_on_a_node_answers none (of_field u none read (field_of d u.fields)) d
         ∙ bool_cases (has_id d t)
         (λ e.
-        let K = find_known (λ i g x. x.text ≡ text_in (field_of (record { index = i; generation = g }) u.fields)) d t X.texts e in
-        rw (e, K.found) (go (field_of d u.fields) (the_first_field_is_one_of_all (Ruled u.slots t) (owns d) u.fields X.ruled) ∙ ap (of_text none said) (sym K.holds)))
+        let K = find_known (λ i g x. x.marked ≡ marked_in (field_of (record { index = i; generation = g }) u.fields)) d t X.texts e in
+        rw (e, K.found) (go (field_of d u.fields) (the_first_field_is_one_of_all (Ruled u.slots t) (owns d) u.fields X.ruled) ∙ ap (of_marked none said) (sym K.holds)))
         (λ e. rw (e, find_nothing d t e))
       where
-        go : (m : Option Field) → FoundBy (Ruled u.slots t) m → (of_field u none read m).answer ≡ of_text none said (text_in m)
+        go : (m : Option Field) → FoundBy (Ruled u.slots t) m → (of_field u none read m).answer ≡ of_marked none said (marked_in m)
         go None q = refl
         go (Some f) q = law f q.0 q.1
 
-    pub field_text_answers_the_nodes_text : (d : NodeId) → (field_text u d).answer ≡ of_node no_text (λ x. of_text no_text (λ t. accepted (padded t)) x.text) (find d t)
+    pub field_text_answers_the_nodes_text : (d : NodeId) → (field_text u d).answer ≡ of_node no_text (λ x. of_marked no_text (λ e. accepted (padded e.text)) x.marked) (find d t)
     unfolding field_text
     field_text_answers_the_nodes_text d =
-        a_read_of_the_field_answers_of_the_text no_text (λ f. gives u (shown f)) (λ t. accepted (padded t)) (λ f h l. ap (λ (s : Shown). accepted s) (a_field_shows_its_text f h l)) d
+        a_read_of_the_field_answers_of_the_text no_text (λ f. gives u (shown f)) (λ e. accepted (padded e.text)) (λ f h l. ap (λ (s : Shown). accepted s) (a_field_shows_its_text f h l)) d
 
-    pub field_cursor_answers_the_nodes_caret : (d : NodeId) → (field_cursor u d).answer ≡ of_node 0 (λ x. of_text 0 (λ t. accepted (caret_of t)) x.text) (find d t)
+    pub field_cursor_answers_the_nodes_caret : (d : NodeId) → (field_cursor u d).answer ≡ of_node 0 (λ x. of_marked 0 (λ e. accepted (caret_of e.text)) x.marked) (find d t)
     unfolding field_cursor
     field_cursor_answers_the_nodes_caret d =
-        a_read_of_the_field_answers_of_the_text 0 (λ f. gives u f.cursor) (λ t. accepted (caret_of t)) (λ f h l. ap (λ (c : ℕ). accepted c) (sym (caret_is_the_texts f h l))) d
+        a_read_of_the_field_answers_of_the_text 0 (λ f. gives u f.cursor) (λ e. accepted (caret_of e.text)) (λ f h l. ap (λ (c : ℕ). accepted c) (sym (caret_is_the_texts f h l))) d
 
     pub metres_of_the_field_are_the_nodes : (d : NodeId)
-        → (on_field u d 0 (λ f. record { next = u; answer = field_metres f })).answer ≡ of_node 0 (λ x. of_text 0 (λ t. metres_of (bytes_of t)) x.text) (find d t)
+        → (on_field u d 0 (λ f. record { next = u; answer = field_metres f })).answer ≡ of_node 0 (λ x. of_marked 0 (λ e. metres_of (bytes_of e.text)) x.marked) (find d t)
     metres_of_the_field_are_the_nodes d =
-        a_read_of_the_field_answers_of_the_text 0 (λ f. record { next = u; answer = field_metres f }) (λ t. metres_of (bytes_of t)) (λ f h l. a_fields_metres_are_its_texts f h l) d
+        a_read_of_the_field_answers_of_the_text 0 (λ f. record { next = u; answer = field_metres f }) (λ e. metres_of (bytes_of e.text)) (λ f h l. a_fields_metres_are_its_texts f h l) d
 
   -- ---- children
 

@@ -5,8 +5,8 @@ use mathlib.Core.Bool.{true}
 use mathlib.Core.List.{List, [], ◌∷◌}
 use Prim.Native.Nat.{ℕ, suc, ◌+◌, ◌≤◌, ◌<◌}
 use lib.ListN.{length, get_or}
-use Rattle.field.specs.Text.{Text}
-use Rattle.field.specs.Fields.{field_ok, text_of}
+use Rattle.field.specs.Marks.{Marked}
+use Rattle.field.specs.Fields.{field_ok, marked_of}
 use Rattle.field.specs.declared.NodeId.{NodeId}
 use Rattle.field.specs.declared.Field.{Field}
 use Rattle.arithmetic.specs.Tests.{occ}
@@ -78,15 +78,15 @@ pub what_follows_of_each : {P Q : Field → Type 0} → ((f : Field) → P f →
 what_follows_of_each h [] q = tt
 what_follows_of_each h (f ∷ fs) q = (h f q.0, what_follows_of_each h fs q.1)
 
-abbrev pub text_in : Option Field → Option Text
-text_in None = None
-text_in (Some f) = Some (text_of f)
+abbrev pub marked_in : Option Field → Option Marked
+marked_in None = None
+marked_in (Some f) = Some (marked_of f)
 
 pub record Texts (s : Slots) (fields : List Field) (t : Forest Info) : Type 0 where
   pub eight : length fields ≡ 8
   pub ruled : AllFields (Ruled s t) fields
   pub owners : owners_well fields ≡ true
-  pub texts : AllF (λ i g x. x.text ≡ text_in (field_of (record { index = i; generation = g }) fields)) t
+  pub texts : AllF (λ i g x. x.marked ≡ marked_in (field_of (record { index = i; generation = g }) fields)) t
 
 -- outputs: an array of 128, and a count within the limit
 pub record Queue (u : Ui) : Type 0 where

@@ -14,7 +14,7 @@ use Rattle.arena.specs.Fields.{field_of}
 use Rattle.tree.specs.Trees.{limit_of}
 use Rattle.tree.specs.declared.Ui.{Ui}
 use Rattle.arena.proofs.Forests.Payloads.{AllF, shape, shape_size, cnt_shape, rel_shape}
-use Rattle.tree.proofs.Relation.{Below, BelowMaybe, Links, Naming, Ruled, AllFields, text_in, Texts, what_follows_of_each}
+use Rattle.tree.proofs.Relation.{Below, BelowMaybe, Links, Naming, Ruled, AllFields, marked_in, Texts, what_follows_of_each}
 
 pub links_after : (k : ℕ) (u : Ui) (t : Forest Info) → Links k u t → Links (suc k) u t
 links_after k u t h = record { chain = h.chain; rel = h.rel; count = h.count; young = λ j. let q = h.young j in omega arith }
@@ -51,7 +51,7 @@ module _ (t t' : Forest Info) (e : shape t ≡ shape t') where
   ruled_by_shape s fs h = what_follows_of_each {P = Ruled s t} {Q = Ruled s t'} (λ f r. (r.0, r.1, below_maybe_by_shape s f.owner r.2)) fs h
 
   pub texts_by_shape : (s : Slots) (fields : List Field) → Texts s fields t
-      → AllF (λ i g x. x.text ≡ text_in (field_of (record { index = i; generation = g }) fields)) t' → Texts s fields t'
+      → AllF (λ i g x. x.marked ≡ marked_in (field_of (record { index = i; generation = g }) fields)) t' → Texts s fields t'
   texts_by_shape s fields h texts' = record {
     eight = h.eight;
     ruled = ruled_by_shape s fields h.ruled;

@@ -67,3 +67,12 @@ module _ (u : Ui) (d : NodeId) {A : Type 0} (none : A) (read : Field → Outcome
       go (Err x) p s q e = let z : ◌≡◌ {A = ℕ} 0 1 = cc in absurd (omega arith)
       go (Ok tt) None s q e = let z : ◌≡◌ {A = ℕ} 0 1 = cc in absurd (omega arith)
       go (Ok tt) (Some k) s q e = let z : k ≡ i = cc in sym (with_a_field u d (the_place_has_the_field d u.fields) s none read q refl) ∙ ap (λ (j : ℕ). read (get_or u.fields j empty_field)) z
+
+pub the_place_that_is_found : (u : Ui) (d : NodeId) (i : ℕ) → field_place u d ≡ Ok i → place_of d u.fields ≡ Some i
+unfolding field_place
+the_place_that_is_found u d i = go (precheck u d) (place_of d u.fields)
+  where
+    go : (v : Result Unit Refusal) (p : Option ℕ) → found_at v p ≡ Ok i → p ≡ Some i
+    go (Err x) p e = let z : ◌≡◌ {A = ℕ} 0 1 = cc in absurd (omega arith)
+    go (Ok tt) None e = let z : ◌≡◌ {A = ℕ} 0 1 = cc in absurd (omega arith)
+    go (Ok tt) (Some k) e = let z : k ≡ i = cc in ap (λ (j : ℕ). Some j) z

@@ -1,15 +1,23 @@
-// Edits of a field: characters of each size put into full fields, and every edit at every place.
+// Edits of a field: characters of each size put into full fields, every edit at every place, and what becomes of the mark.
 ghost use Rattle.std.specs.Prelude.{◌<◌};
 
 use crate::lines::group;
 use crate::show::heading;
 use crate::sums;
-use field::{EditOp, Edited, Field};
+use field::{EditOp, Edited, Field, Mark};
 use std::fmt::Display;
 use std::{fmt, io, str};
 use text::refusal;
 
-// Length, caret, and the sum of all 64 bytes.
+fn mark_name(mark: Mark) -> &'static str {
+    match mark {
+        Mark::Untouched => "untouched",
+        Mark::Typed => "typed",
+        Mark::Confirmed => "confirmed",
+    }
+}
+
+// Length, caret, mark, and the sum of all 64 bytes.
 #[derive(Drop)]
 struct State(Field);
 
@@ -17,9 +25,10 @@ impl Display for State {
     fn fmt<W: fmt::Write>(&self, f: &mut fmt::Formatter<W>) -> fmt::Result {
         let State(own) = self;
         let sum = sums::sum_of(&own.bytes);
+        let mark = mark_name(own.mark);
         write!(
             f,
-            "length {}, caret {}, sum {sum:016x}",
+            "length {}, caret {}, mark {mark}, sum {sum:016x}",
             own.len, own.cursor
         )
     }
@@ -156,29 +165,70 @@ fn emptied(rt: &impl Print) -> io::Result<()> {
     repeated(rt, EditOp::Delete, "delete", f.edit(EditOp::Home))
 }
 
+// A draught with so many spaces before it, which are no part of its number.
+fn draught(spaces: u32) -> Field {
+    let blank = (0..spaces).fold(Field::empty(), |f, _| f.insert(0x20));
+    blank.insert(0x37).insert(0x2e).insert(0x34)
+}
+
+// Every edit, a character, and a code that is none.
+fn each_key(rt: &impl Print, f: Field) -> io::Result<()> {
+    each_edit(rt, f)?;
+    insertion(rt, f, 0x35)?;
+    insertion(rt, f, 0xd800)
+}
+
+// The spaces before a draught, and where the caret stands: at both ends and between, with room for more and with none.
+const PLACES: [(u32, u32); 6] = [(0, 0), (0, 1), (0, 3), (61, 0), (61, 62), (61, 64)];
+
+fn marks(rt: &impl Print) -> io::Result<()> {
+    group(
+        rt,
+        "Every edit of a confirmed text",
+        &PLACES,
+        |(spaces, n)| each_key(rt, at(draught(spaces), n).confirmed()),
+    )?;
+    group(
+        rt,
+        "Every edit of an untouched text",
+        &PLACES,
+        |(spaces, n)| each_key(rt, at(draught(spaces), n).confirmed().unconfirmed()),
+    )
+}
+
 fn answer(rt: &impl Print, name: &str, asked: &str, e: Edited) -> io::Result<()> {
     let number = refusal::number(e.verdict);
     println!(rt; "{name}, {asked} gives {number}: {}", State(e.field))
 }
 
-// What a caller is answered who asks for an edit and for a character, of the field with a character of each size and these counts.
-fn asked(rt: &impl Print, name: &str, len: u8, cursor: u8) -> io::Result<()> {
-    let f = Field {
+// What a caller is answered who asks for an edit and for a character, by value and lent, and for metres.
+fn asked(rt: &impl Print, name: &str, f: Field) -> io::Result<()> {
+    answer(rt, name, "left", f.try_edit(EditOp::Left))?;
+    answer(rt, name, "left when lent", f.edit_here(EditOp::Left))?;
+    answer(rt, name, "insert", f.try_insert(0x79))?;
+    answer(rt, name, "insert when lent", f.insert_here(0x79))?;
+    println!(rt; "{name}, metres gives {}", refusal::number(f.metres()))
+}
+
+// The field with a character of each size and these counts.
+fn counted(len: u8, cursor: u8) -> Field {
+    Field {
         len,
         cursor,
         ..ten()
-    };
-    answer(rt, name, "left", f.try_edit(EditOp::Left))?;
-    answer(rt, name, "insert", f.try_insert(0x79))
+    }
 }
 
 fn broken(rt: &impl Print) -> io::Result<()> {
-    heading(rt, "Fields that break the rules, and one that keeps them")?;
-    asked(rt, "sound", 10, 3)?;
-    asked(rt, "length above 64", 65, 3)?;
-    asked(rt, "caret past the length", 10, 11)?;
-    asked(rt, "caret inside a character", 10, 2)?;
-    asked(rt, "text cut short", 9, 3)
+    heading(rt, "Fields that break the rules, and some that keep them")?;
+    asked(rt, "sound", counted(10, 3))?;
+    asked(rt, "length above 64", counted(65, 3))?;
+    asked(rt, "caret past the length", counted(10, 11))?;
+    asked(rt, "caret inside a character", counted(10, 2))?;
+    asked(rt, "text cut short", counted(9, 3))?;
+    asked(rt, "confirmed metres", draught(0).confirmed())?;
+    asked(rt, "confirmed with no text", Field::empty().confirmed())?;
+    asked(rt, "confirmed text that is no metres", ten().confirmed())
 }
 
 pub(crate) fn run(rt: &impl Print) -> io::Result<()> {
@@ -187,5 +237,6 @@ pub(crate) fn run(rt: &impl Print) -> io::Result<()> {
     small(rt)?;
     full(rt)?;
     emptied(rt)?;
+    marks(rt)?;
     broken(rt)
 }

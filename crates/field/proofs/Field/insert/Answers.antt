@@ -4,6 +4,7 @@ use lib.Seq.{paste}
 use Rattle.std.proofs.lemmas.Slice.{put_mid-paste}
 use Rattle.text.proofs.Encodes.{encoded_bytes, at_most_four_bytes}
 use Rattle.field.specs.Fields.{inserted}
+use Rattle.field.specs.declared.Mark.TheVariants.{Typed}
 use Rattle.field.proofs.Inserts.{no_bytes_change_nothing, no_room_changes_nothing, bytes_go_in}
 use Rattle.field.proofs.Ranges.{length_in_range, caret_in_range}
 use Rattle.field.proofs.Field.insert.Goals as goal
@@ -50,5 +51,5 @@ returns c =
     let m = put_mid-paste f.cursor (f.cursor + e.len - f.cursor) wide c.copy_from_slice.new.self (take e.len e.bytes) e.len c.copy_from_slice.ensures.after (omega arith) (sym (length-take-le e.len e.bytes few))
     ∙ ap (λ (s : List ℕ). take f.cursor wide ++ s ++ drop (f.cursor + e.len) wide) (take-take e.len e.len e.bytes (omega arith))
     ∙ ap (λ (d : List ℕ). paste d f.cursor e.bytes e.len) c.copy_within.ensures.after in
-    (λ i. record { owner = f.owner; bytes = m i; len = f.len + e.len; cursor = f.cursor + e.len })
+    (λ i. record { owner = f.owner; bytes = m i; len = f.len + e.len; cursor = f.cursor + e.len; mark = Typed })
     ∙ bytes_go_in f h c.args.ch e b c.if-e-eq0.false c.if-self-e-gt64.false (search rules)

@@ -1,6 +1,7 @@
 -- A field that keeps the rules is read by its text. Assumes nothing.
 use Rattle.std.proofs.Common.{sym, ap, ◌∙◌}
-use Rattle.field.specs.Metres.{metres_of, field_metres}
+use Rattle.field.specs.Metres.{metres_of}
+use Rattle.field.specs.Fields.{field_metres}
 use Rattle.field.proofs.Field.metres.Goals as goal
 
 pub returns-then-not-sound : goal.returns-then-not-sound

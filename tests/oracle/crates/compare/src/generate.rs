@@ -6,7 +6,7 @@ use crate::stories;
 use crate::styles::Sizes;
 
 /// The lines of one script, without the `state` lines that a comparison adds. It has just so many calls
-/// where `calls` says so, lines that write `?` or nothing not counted; otherwise about 230.
+/// where `calls` says so, lines that write `?` or nothing not counted; otherwise about 235.
 pub fn script(seed: u64, number: u64, calls: Option<usize>) -> Vec<String> {
     let mut rng = Rng::new(seed, number);
     let sizes = rng.weighted(&[(65, Sizes::Screen), (20, Sizes::Fractions), (15, Sizes::Ends)]);

@@ -4,7 +4,7 @@
 //!     compare tell CONSOLE N SEED               the first scripts that show a faulty console
 //!     compare script SEED NUMBER [CALLS]        one script, as `run` uses it
 //!
-//! A script has CALLS calls, or about 230 where nothing is said. PATIENCE says after how many seconds a console hangs.
+//! A script has CALLS calls, or about 235 where nothing is said. PATIENCE says after how many seconds a console hangs.
 
 mod author;
 mod console;

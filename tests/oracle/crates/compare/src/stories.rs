@@ -5,6 +5,7 @@ mod answers;
 mod boxes;
 mod fields;
 mod labels;
+mod marks;
 mod pointer;
 mod starts;
 mod states;
@@ -15,7 +16,7 @@ use crate::author::{Author, id};
 type Story = fn(&mut Author);
 
 /// The stories with how often each is told.
-const STORIES: [(usize, Story); 39] = [
+const STORIES: [(usize, Story); 45] = [
     (12, tree::grow_tree),
     (7, tree::restyle),
     (8, tree::pass),
@@ -37,6 +38,12 @@ const STORIES: [(usize, Story); 39] = [
     (7, fields::fill_field),
     (7, fields::read_metres),
     (3, fields::clear_with_spaces),
+    (8, marks::touch_confirmed),
+    (3, marks::full_and_confirmed),
+    (4, marks::unconfirmed),
+    (7, marks::next_ship),
+    (4, marks::taken_again),
+    (2, marks::across_a_start),
     (9, states::wear),
     (7, states::swap_pool),
     (5, states::moved_under_pointer),
@@ -95,7 +102,8 @@ pub fn last_reads(author: &Author) -> Vec<String> {
     for node in author.live().into_iter().take(30) {
         lines.extend(["rect", "first", "next"].map(|word| format!("{word} {}", id(node))));
         if author.ui().field_text(node).is_some() {
-            lines.extend(["text", "cursor", "metres"].map(|word| format!("{word} {}", id(node))));
+            let words = ["text", "cursor", "metres", "ramp", "office"];
+            lines.extend(words.map(|word| format!("{word} {}", id(node))));
         }
     }
     lines.extend(author.given().into_iter().take(20).map(|node| format!("live {}", id(node))));

@@ -22,6 +22,10 @@ const METRES: [&str; 78] = [
 const NUMBERS: [&str; 12] =
     ["0", "7", "42", "007", "999", "1000", "7.4", "7.40", "7.400", "0.01", "999.99", "1234.5"];
 
+/// What reads as metres.
+const DRAUGHTS: [&str; 12] =
+    ["0", "7", "42", "007", "7.4", "7.40", "7,40", "12,3", "0.01", "999.99", " 7.4", "7 "];
+
 /// Blanks. Code 32 alone is a space; the others are there for a desk that takes them for one.
 const BLANKS: [char; 8] = [' ', ' ', ' ', ' ', ' ', '\t', '\n', '\u{a0}'];
 
@@ -74,6 +78,11 @@ pub fn metres(rng: &mut Rng) -> String {
         }
     }
     text
+}
+
+/// A text that reads as metres.
+pub fn draught(rng: &mut Rng) -> &'static str {
+    rng.pick(&DRAUGHTS)
 }
 
 /// Puts a comma or some blanks of one kind at any place; at the two ends more often.

@@ -7,6 +7,7 @@ use renew_ui::{Fixed, NodeId, StatePatch, Ui, UiLimits, UiRefused, text};
 
 use crate::call::Call;
 use crate::lines::lines;
+use crate::marks::{Mark, Marks};
 use crate::metres::metres;
 
 const MOST_NODES: u32 = 128;
@@ -26,16 +27,26 @@ const LONG: u8 = 7;
 const FIELDLESS: u8 = 8;
 pub(crate) const ILL_FORMED: u8 = 11;
 
-/// The tree, the patches that wait for the next `pool` and the label that waits for the next `lines`.
+/// The refusal number that wish 6 of document 02 adds.
+const UNCONFIRMED: u8 = 14;
+
+/// The tree, the marks of its fields, the patches that wait for the next `pool` and the label that waits for the next
+/// `lines`.
 pub struct Desk {
     ui: Ui,
+    marks: Marks,
     waiting: Vec<StatePatch>,
     label: Vec<u8>,
 }
 
 impl Default for Desk {
     fn default() -> Self {
-        Self { ui: Ui::new(UiLimits { nodes: 1 }), waiting: Vec::new(), label: Vec::new() }
+        Self {
+            ui: Ui::new(UiLimits { nodes: 1 }),
+            marks: Marks::default(),
+            waiting: Vec::new(),
+            label: Vec::new(),
+        }
     }
 }
 
@@ -57,6 +68,13 @@ impl Desk {
 
     /// The line that a call writes; `None` is a call that the console page calls malformed.
     pub fn answer(&mut self, call: Call) -> Option<String> {
+        let before = self.ui.owners_and_texts();
+        let line = self.line(call);
+        self.marks.follow(&before, &self.ui.owners_and_texts());
+        line
+    }
+
+    fn line(&mut self, call: Call) -> Option<String> {
         let line = match call {
             Call::New(limit) => bare(self.renew(limit, Ui::new)),
             Call::Origin(limit) => bare(self.renew(limit, Ui::at_origin)),
@@ -70,6 +88,13 @@ impl Desk {
             Call::Text(node) => shown(self.text(node).map(show_text), "0 -"),
             Call::Cursor(node) => shown(self.cursor(node), "0"),
             Call::Metres(node) => shown(self.text(node).and_then(metres), "0"),
+            Call::Confirm(node) => bare(self.confirm(node)),
+            Call::Ship => {
+                self.marks.next_ship();
+                bare(Ok(()))
+            }
+            Call::Ramp(node) => shown(self.confirmed_metres(node), "0"),
+            Call::Office(node) => shown(self.marked_text(node), "0 - 0 0"),
             Call::Solve(width, height) => {
                 self.ui.solve(width, height);
                 bare(Ok(()))
@@ -92,7 +117,7 @@ impl Desk {
             Call::Measure(bytes) => shown(measure(&bytes), "0"),
             Call::Label(bytes) => self.lengthen(&bytes)?,
             Call::Lines(width, room) => self.lines(width, room),
-            Call::State => shown(Ok(format!("{:016x}", self.ui.digest())), ""),
+            Call::State => shown(Ok(format!("{:016x}", self.marks.digest(self.ui.digest()).finish())), ""),
         };
         Some(line)
     }
@@ -155,6 +180,34 @@ impl Desk {
 
     fn cursor(&self, node: NodeId) -> Result<u8, u8> {
         self.ui.field_cursor(node).ok_or_else(|| self.no_field(node))
+    }
+
+    /// Which of the eight fields is a live node's.
+    fn field(&self, node: NodeId) -> Result<usize, u8> {
+        let of_node = |(owner, _): &(Option<NodeId>, Vec<u8>)| *owner == Some(node);
+        let field = self.ui.owners_and_texts().iter().position(of_node);
+        field.filter(|_| self.ui.is_live(node)).ok_or_else(|| self.no_field(node))
+    }
+
+    fn confirm(&mut self, node: NodeId) -> Result<(), u8> {
+        let field = self.field(node)?;
+        metres(self.text(node)?)?;
+        self.marks.set(field, Mark::Confirmed);
+        Ok(())
+    }
+
+    /// What the ramp's reader gets.
+    fn confirmed_metres(&self, node: NodeId) -> Result<u32, u8> {
+        if self.marks.of(self.field(node)?) != Mark::Confirmed {
+            return Err(UNCONFIRMED);
+        }
+        metres(self.text(node)?)
+    }
+
+    /// What the harbour office's reader gets, under every mark: bytes, caret and mark.
+    fn marked_text(&self, node: NodeId) -> Result<String, u8> {
+        let mark = self.marks.of(self.field(node)?);
+        Ok(format!("{} {} {}", show_text(self.text(node)?), self.cursor(node)?, mark as u32))
     }
 
     fn no_field(&self, node: NodeId) -> u8 {

@@ -4,6 +4,7 @@
 pub mod call;
 pub mod desk;
 pub mod lines;
+pub mod marks;
 pub mod metres;
 pub mod parse;
 pub mod script;

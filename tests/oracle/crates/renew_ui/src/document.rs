@@ -5,7 +5,7 @@ use renew_frame::StateHash;
 
 use crate::layout::{Align, Direction, Edges, LayoutSlot, Rect, Size, Style};
 use crate::state::StateSlot;
-use crate::{Fixed, NIL, NodeId, Slot, Ui, UiLimits, UiOutput};
+use crate::{Fixed, MAX_FIELDS, NIL, NodeId, Slot, Ui, UiLimits, UiOutput};
 
 /// Named by lib.rs, used by nobody here.
 pub struct Document;
@@ -77,9 +77,16 @@ impl Ui {
         self.hit_test(x, y)
     }
 
-    /// The digest of the whole tree, its seven parts in the console page's order.
+    /// The owner and the text of each field.
     #[must_use]
-    pub fn digest(&self) -> u64 {
+    pub fn owners_and_texts(&self) -> [(Option<NodeId>, Vec<u8>); MAX_FIELDS] {
+        self.fields.map(|field| (field.owner, field.text().to_vec()))
+    }
+
+    /// The digest of the whole tree, seven parts in the console page's order. The marks, which are not the source's,
+    /// come after them.
+    #[must_use]
+    pub fn digest(&self) -> StateHash {
         let mut hash = self.digest_counts(StateHash::new());
         hash = self.digest_interaction(hash);
         hash = self.digest_outputs(hash);
@@ -88,7 +95,7 @@ impl Ui {
         for ((slot, layout), state) in self.slots.iter().zip(&self.layout).zip(&self.states) {
             hash = digest_slot(hash, slot, layout, state);
         }
-        self.digest_fields(hash).finish()
+        self.digest_fields(hash)
     }
 
     fn digest_counts(&self, hash: StateHash) -> StateHash {

@@ -10,9 +10,10 @@ pub fn refusals(author: &mut Author) {
     match author.rng.below(6) {
         0 => {
             let dead = author.some_stale();
-            for word in
-                ["insert", "remove", "field", "text", "cursor", "metres", "rect", "live", "first", "next"]
-            {
+            for word in ["insert", "remove", "field", "text", "cursor", "metres", "rect", "live", "first"] {
+                author.call_on(word, dead);
+            }
+            for word in ["next", "confirm", "ramp", "office"] {
                 author.call_on(word, dead);
             }
             let style = styles::style(&mut author.rng, author.sizes);
@@ -34,7 +35,7 @@ pub fn refusals(author: &mut Author) {
         }
         3 => {
             let node = author.some_live();
-            for word in ["text", "cursor", "metres"] {
+            for word in ["text", "cursor", "metres", "confirm", "ramp", "office"] {
                 author.call_on(word, node);
             }
         }
@@ -72,8 +73,13 @@ pub fn measure(author: &mut Author) {
 pub fn reads(author: &mut Author) {
     for _ in 0..4 {
         let node = author.some_id();
-        let word = author.rng.pick(&["rect", "rect", "first", "next", "live", "text", "cursor", "metres"]);
+        let word = author
+            .rng
+            .pick(&["rect", "rect", "first", "next", "live", "text", "cursor", "metres", "ramp", "office"]);
         author.call_on(word, node);
+    }
+    if author.rng.chance(10) {
+        author.call("ship");
     }
     let hash = author.rng.bits();
     author.call(format!("absorb {hash:016x}"));
@@ -83,7 +89,7 @@ pub fn reads(author: &mut Author) {
 
 /// Lines that are no call: each must write `?` and change nothing.
 pub fn malformed(author: &mut Author) {
-    const WHOLE: [&str; 55] = [
+    const WHOLE: [&str; 75] = [
         "",
         "#",
         "# a comment",
@@ -139,6 +145,26 @@ pub fn malformed(author: &mut Author) {
         "lines -1 1",
         "lines 4294967296 1",
         "line 1 1",
+        "confirm",
+        "confirm 0",
+        "confirm 0 1 2",
+        "confirm 00 1",
+        "confirm -1 1",
+        "confirm 4294967296 1",
+        "confirm 0 18446744073709551616",
+        "Confirm 0 1",
+        "confirmed 0 1",
+        "ship 0",
+        "ship 0 1",
+        "ship ",
+        "ships",
+        "ramp",
+        "ramp 0",
+        "ramp 0 1 2",
+        "ramp 0  1",
+        "office",
+        "office 0",
+        "office 0 1 0",
     ];
     for _ in 0..3 {
         let line = author.rng.pick(&WHOLE);

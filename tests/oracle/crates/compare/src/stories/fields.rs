@@ -74,7 +74,7 @@ pub fn edit(author: &mut Author) {
 }
 
 /// A field with the focus, made where there is none.
-fn focused_field(author: &mut Author) -> Option<NodeId> {
+pub fn focused_field(author: &mut Author) -> Option<NodeId> {
     if let Some(focus) = author.ui().focus()
         && author.ui().field_text(focus).is_some()
         && author.rng.chance(70)
@@ -123,14 +123,14 @@ pub fn fill_field(author: &mut Author) {
 }
 
 /// Takes all characters of the focused field away.
-fn empty(author: &mut Author, node: NodeId) {
+pub fn empty(author: &mut Author, node: NodeId) {
     author.call("edit end");
     while author.ui().field_text(node).is_some_and(|text| !text.is_empty()) {
         author.call("edit backspace");
     }
 }
 
-fn type_in(author: &mut Author, text: &str) {
+pub fn type_in(author: &mut Author, text: &str) {
     for character in text.chars() {
         author.call(format!("char {}", u32::from(character)));
     }
@@ -143,6 +143,9 @@ pub fn read_metres(author: &mut Author) {
         let text = texts::metres(&mut author.rng);
         type_in(author, &text);
         author.call_on("metres", node);
+        let word = author.rng.pick(&["confirm", "confirm", "ramp", "office"]);
+        author.call_on(word, node);
+        author.call_on("ramp", node);
     }
     let other = author.some_id();
     author.call_on("metres", other);
@@ -162,7 +165,7 @@ pub fn clear_with_spaces(author: &mut Author) {
     for _ in text.chars() {
         author.call("edit delete");
     }
-    for word in ["metres", "text", "cursor"] {
+    for word in ["metres", "confirm", "text", "cursor", "office"] {
         author.call_on(word, node);
     }
 }

@@ -115,7 +115,7 @@ fn tap(author: &mut Author, node: NodeId) {
     author.call("release");
     author.call("focus");
     author.call("char 55");
-    let word = author.rng.pick(&["text", "cursor", "metres"]);
+    let word = author.rng.pick(&["text", "cursor", "metres", "office"]);
     author.call_on(word, node);
     let word = author.rng.pick(&["output", "absorb cbf29ce484222325"]);
     author.call(word);
