@@ -3,7 +3,7 @@
 use mathlib.Core.Path.{◌≡◌, refl, sym, ◌∙◌, ap, ap₂}
 use mathlib.Core.Bool.{Bool, true, false, cond}
 use mathlib.Core.List.{List}
-use Prim.Native.Nat.{ℕ, ◌+◌, ◌-◌, ◌*◌, ◌/◌, ◌%◌, ◌≤◌, ◌<◌, ◌^◌, min}
+use Prim.Native.Nat.{ℕ, ◌+◌, ◌*◌, ◌/◌, ◌≤◌, ◌<◌, ◌^◌, min}
 use native.Mathlib.Decide.{dec_lt, ℕ_discrete}
 use native.Mathlib.Omega.{arith}
 use borrow.Author.Tests.{lt-ltb, le-ltb, eq-eqb, ne_eqb, leb-true, leb-false}
@@ -16,7 +16,7 @@ use Rattle.arithmetic.specs.Growth.{table, comes_before, rank, grow_sum, whole_s
 use Rattle.arithmetic.specs.Support.Steps.{PartsOf, RoomForUnits, with_unit}
 use Rattle.arithmetic.proofs.GrowthPicks.{unit_below_count, no_unit_past_count}
 use Rattle.arithmetic.proofs.GrowthRanks.{bit}
-use Rattle.arithmetic.proofs.GrowthShares.{at_most_one_unit_each}
+use Rattle.arithmetic.proofs.GrowthShares.{missing_at_most_count}
 use Rattle.arithmetic.proofs.Sums.{equal_summands_equal_sums, summand_at_most_sum}
 
 comes_before_by_keys : (a i b j : ℕ) → Dec (a < b) → Dec (a ≡ b) → comes_before (a + 1) i (b + 1) j ≡ comes_before a i b j
@@ -43,15 +43,15 @@ module _ (l : ℕ) (grows : List ℕ) (n k : ℕ) where
   either_is_none true = refl
   either_is_none false = refl
 
-  pub no_share_past_count : n ≤ k → share l grows n k ≡ 0
+  no_share_past_count : n ≤ k → share l grows n k ≡ 0
   unfolding share
   no_share_past_count h = simp (le-ltb k n h) (ap (λ (x : ℕ). cond (ltb 0 l) x 0) (either_is_none (ltb 0 (grow_sum grows n))) ∙ either_is_none (ltb 0 l))
 
-  pub no_share_of_no_leftover : l ≡ 0 → share l grows n k ≡ 0
+  no_share_of_no_leftover : l ≡ 0 → share l grows n k ≡ 0
   unfolding share
   no_share_of_no_leftover e = simp (le-ltb 0 l (omega arith))
 
-  pub no_share_of_no_grow : grow_sum grows n ≡ 0 → share l grows n k ≡ 0
+  no_share_of_no_grow : grow_sum grows n ≡ 0 → share l grows n k ≡ 0
   unfolding share
   no_share_of_no_grow e = rw e (either_is_none (ltb 0 l))
 
@@ -67,7 +67,7 @@ module _ (l : ℕ) (grows : List ℕ) (n : ℕ) where
 
   remainder_of_front : (k : ℕ) → k < n → remainder l (take n grows) n k ≡ remainder l grows n k
   unfolding remainder
-  remainder_of_front k h = ap₂ (λ (g t : ℕ). l * g % t) (get_or-take n grows k 0 h) grow_sum_of_front
+  remainder_of_front k h = simp (get_or-take n grows k 0 h, grow_sum_of_front) refl
 
   pub parts_of_front : {shares : List ℤ} {keys : List ℕ} {given : ℕ} → PartsOf l (take n grows) n shares keys given → PartsOf l grows n shares keys given
   parts_of_front p =
@@ -90,35 +90,33 @@ unfolding plan_growth
 plan_of_no_grow (pos m) grows count h = sym (ap (table 128) (λ i k. pos (no_share_of_no_grow m grows (min count 128) k h i)))
 plan_of_no_grow (negsuc m) grows count h = refl
 
-module _ (l : ℕ) (grows : List ℕ) (n : ℕ) (shares : List ℤ) (keys : List ℕ) (given : ℕ) (some : 0 < grow_sum grows n) (p : PartsOf l grows n shares keys given) where
-  missing_is : l - given ≡ missing l grows n
-  unfolding missing
-  missing_is = ap (λ (x : ℕ). l - x) p.given_is
-
+module _ (l : ℕ) (grows : List ℕ) (n : ℕ) (shares : List ℤ) (keys : List ℕ) (given units : ℕ) (some : 0 < grow_sum grows n) (p : PartsOf l grows n shares keys given) (are : units ≡ missing l grows n) where
   -- Where a unit is missing, each whole share is below the leftover.
-  pub parts_have_room : l < 2 ^ 63 → n ≤ 128 → RoomForUnits shares keys n (l - given)
+  pub parts_have_room : l < 2 ^ 63 → n ≤ 128 → RoomForUnits shares keys n units
+  unfolding missing
   parts_have_room f h =
       record {
         n_fits = h;
-        enough = rw missing_is (at_most_one_unit_each l grows n some);
-        room = λ k q s. rw (p.shares_are k q) (omega (arith, summand_at_most_sum (whole_share l grows n) n k q, p.given_is));
+        enough = omega (arith, are, missing_at_most_count l grows n some);
+        room = λ k q s. rw (p.shares_are k q) (omega (arith, are, summand_at_most_sum (whole_share l grows n) n k q));
         unmarked = λ k q. omega (arith, p.keys_are k q);
       }
 
-  unit_is_share : 0 < l → (k : ℕ) → Dec (k < n) → with_unit shares keys n (l - given) k ≡ pos (share l grows n k)
+  unit_is_share : 0 < l → (k : ℕ) → Dec (k < n) → with_unit shares keys n units k ≡ pos (share l grows n k)
   unfolding with_unit
   unit_is_share left k (yes h) =
       ap₂ (λ (x : ℤ) (u : ℕ). x +ℤ pos u) (p.shares_are k h)
-      (unit_below_count keys n (l - given) k h ∙ ap₂ bit (rank_of_keys (λ j. get_or keys j 0) (remainder l grows n) n k h p.keys_are) missing_is)
+      (unit_below_count keys n units k h ∙ ap₂ bit (rank_of_keys (λ j. get_or keys j 0) (remainder l grows n) n k h p.keys_are) are)
       ∙ ap pos (sym (share_of_place l grows n k left some h))
   unit_is_share left k (no h) =
-      ap₂ (λ (x : ℤ) (u : ℕ). x +ℤ pos u) (p.none_past k (omega arith)) (no_unit_past_count keys n (l - given) k (omega arith))
+      ap₂ (λ (x : ℤ) (u : ℕ). x +ℤ pos u) (p.none_past k (omega arith)) (no_unit_past_count keys n units k (omega arith))
       ∙ ap pos (sym (no_share_past_count l grows n k (omega arith)))
 
-pub plan_by_parts : (l : ℤ) (grows : List ℕ) (count n : ℕ) (shares : List ℤ) (keys : List ℕ) (given : ℕ) → n ≡ min count 128 → le_z l (pos 0) ≡ false → 0 < grow_sum grows n → PartsOf (nat_abs l) grows n shares keys given
-    → table 128 (with_unit shares keys n (nat_abs l - given)) ≡ plan_growth l grows count
+pub plan_by_parts : (l : ℤ) (grows : List ℕ) (count n : ℕ) (shares : List ℤ) (keys : List ℕ) (given units : ℕ) → n ≡ min count 128 → le_z l (pos 0) ≡ false → 0 < grow_sum grows n → PartsOf (nat_abs l) grows n shares keys given
+    → units ≡ missing (nat_abs l) grows n
+    → table 128 (with_unit shares keys n units) ≡ plan_growth l grows count
 unfolding plan_growth
-plan_by_parts (pos m) grows count n shares keys given e h t p =
+plan_by_parts (pos m) grows count n shares keys given units e h t p are =
     ap (table 128)
-    (λ i k. (unit_is_share m grows n shares keys given t p (omega (arith, leb-false m 0 h)) k (dec_lt k n) ∙ ap (λ (x : ℕ). pos (share m grows x k)) e) i)
-plan_by_parts (negsuc m) grows count n shares keys given e h t p = let z : ◌≡◌ {A = ℕ} 0 1 = cc in absurd (omega arith)
+    (λ i k. (unit_is_share m grows n shares keys given units t p are (omega (arith, leb-false m 0 h)) k (dec_lt k n) ∙ ap (λ (x : ℕ). pos (share m grows x k)) e) i)
+plan_by_parts (negsuc m) grows count n shares keys given units e h t p are = let z : ◌≡◌ {A = ℕ} 0 1 = cc in absurd (omega arith)

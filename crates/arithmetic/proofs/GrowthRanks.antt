@@ -144,6 +144,15 @@ module _ (f : ℕ → ℕ) (n : ℕ) (fits : n ≤ 128) where
       by (no h) (no s) =
           omega (arith, more_are_larger κ n j i p (omega arith), rank_counts_larger i p, rank_counts_larger j q)
 
+  -- A place of lower rank has no smaller number.
+  pub lower_rank_no_smaller : (i j : ℕ) → i < n → j < n → rank f n i < rank f n j → f j ≤ f i
+  unfolding κ
+  lower_rank_no_smaller i j p q h = by (dec_le (f j) (f i))
+    where
+      by : Dec (f j ≤ f i) → f j ≤ f i
+      by (yes l) = l
+      by (no l) = absurd (omega (arith, at_least_as_many_larger κ n j i (omega arith), rank_counts_larger i p, rank_counts_larger j q))
+
   -- Keys with those of rank below m marked by 0, and b the first of the largest.
   module _ (g : ℕ → ℕ) (m b : ℕ) (few : m < n) (some : (k : ℕ) → k < n → 0 < f k) (marked : (k : ℕ) → k < n → rank f n k < m → g k ≡ 0) (kept : (k : ℕ) → k < n → m ≤ rank f n k → g k ≡ f k)
       (inside : b < n) (largest : (k : ℕ) → k < n → g k ≤ g b) (first : (k : ℕ) → k < b → g k < g b) where

@@ -1,3 +1,5 @@
+pub mod Fair
+pub mod FairRows
 pub mod FoldLaws
 pub mod GrowthPicks
 pub mod GrowthPlans

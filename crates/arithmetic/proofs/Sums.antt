@@ -1,17 +1,20 @@
 -- Sums and tables over the first n numbers, and lists that a loop fills from the front. All by induction on n. Assumes nothing.
 use mathlib.Core.Path.{◌≡◌, refl, sym, ◌∙◌, ap, ap₂, subst}
-use mathlib.Core.List.{List}
+use mathlib.Core.List.{List, [], ◌∷◌}
 use Prim.Native.Nat.{ℕ, zero, suc, ◌+◌, ◌*◌, ◌-◌, ◌≤◌, ◌<◌, zero-le}
 use native.Mathlib.Nat.{le_of_suc-le-suc, not-suc-le-zero, add-mul, add-zero, le_refl, lt_irrefl}
 use native.Mathlib.Numerals.{add-one}
 use native.Mathlib.Decide.{dec_lt}
 use native.Mathlib.Omega.{arith}
+use borrow.Author.Differences.{up, down}
+use Rattle.std.proofs.lemmas.Int.{ints}
+use lib.IntN.{ℤ, pos}
 use lib.ListN.{get_or, length, set, replicate, take}
 use lib.Seq.{get_or-set_same, get_or-set_other, ext_get_or, take-length}
 use borrow.Author.Count.{below_more}
 use Rattle.std.specs.Prelude.{sum}
 use Rattle.std.proofs.lemmas.List.Sums.{fold_more}
-use Rattle.arithmetic.specs.Growth.{sum_to, table}
+use Rattle.arithmetic.specs.Growth.{sum_to, total, table}
 
 pub sum_of_none : (f : ℕ → ℕ) → sum_to f 0 ≡ 0
 unfolding sum_to
@@ -38,6 +41,12 @@ unfolding sum_to
 bounded_summands_bounded_sum f m zero h = zero-le
 bounded_summands_bounded_sum f m (suc n) h =
     omega (arith, bounded_summands_bounded_sum f m n (λ k p. h k (omega arith)), h n (omega arith), add-mul n 1 m)
+
+pub multiple_summands_multiple_sum : (f g : ℕ → ℕ) (m n : ℕ) → ((k : ℕ) → k < n → f k ≤ g k * m) → sum_to f n ≤ sum_to g n * m
+unfolding sum_to
+multiple_summands_multiple_sum f g m zero h = zero-le
+multiple_summands_multiple_sum f g m (suc n) h =
+    omega (arith, multiple_summands_multiple_sum f g m n (λ k p. h k (omega arith)), h n (omega arith))
 
 pub smaller_summands_smaller_sum : (f g : ℕ → ℕ) (n : ℕ) → ((k : ℕ) → k < n → f k ≤ g k) → sum_to f n ≤ sum_to g n
 unfolding sum_to
@@ -78,6 +87,20 @@ pub summand_at_most_sum : (f : ℕ → ℕ) (n k : ℕ) → k < n → f k ≤ su
 summand_at_most_sum f n k h =
     omega (arith, sum_of_one_more f k, more_summands_larger_sum f (k + 1) n (omega arith))
 
+pub sum_from_front : (f : ℕ → ℕ) (n : ℕ) → sum_to f (suc n) ≡ f 0 + sum_to (λ k. f (suc k)) n
+unfolding sum_to
+sum_from_front f zero = omega arith
+sum_from_front f (suc n) = omega (arith, sum_from_front f n)
+
+-- The total of whole numbers by what lies above zero and what below.
+pub total_by_parts : (n : ℕ) (xs : List ℤ) → up (total (take n xs)) + sum_to (λ k. down (get_or xs k (pos 0))) n ≡ sum_to (λ k. up (get_or xs k (pos 0))) n + down (total (take n xs))
+unfolding total
+total_by_parts zero xs = omega (arith, sum_of_none (λ k. down (get_or xs k (pos 0))), sum_of_none (λ k. up (get_or xs k (pos 0))))
+total_by_parts (suc n) [] =
+    omega (arith, sum_of_equals (λ k. down (get_or [] k (pos 0))) 0 (suc n) (λ k h. refl), sum_of_equals (λ k. up (get_or [] k (pos 0))) 0 (suc n) (λ k h. refl))
+total_by_parts (suc n) (x ∷ xs) =
+    omega (arith, ints, total_by_parts n xs, sum_from_front (λ k. down (get_or (x ∷ xs) k (pos 0))) n, sum_from_front (λ k. up (get_or (x ∷ xs) k (pos 0))) n)
+
 sum_of_front : (xs : List ℕ) (n : ℕ) → n ≤ length xs → sum (take n xs) ≡ sum_to (λ k. get_or xs k 0) n
 unfolding sum_to
 sum_of_front xs zero h = refl
@@ -99,12 +122,6 @@ unfolding table
 table_at zero k f d h = absurd (not-suc-le-zero h)
 table_at (suc n) zero f d h = refl
 table_at (suc n) (suc k) f d h = table_at n k (λ j. f (suc j)) d (le_of_suc-le-suc h)
-
-pub table_past_end : {X : Type 0} (n k : ℕ) (f : ℕ → X) (d : X) → n ≤ k → get_or (table n f) k d ≡ d
-unfolding table
-table_past_end zero k f d h = refl
-table_past_end (suc n) zero f d h = absurd (not-suc-le-zero h)
-table_past_end (suc n) (suc k) f d h = table_past_end n k (λ j. f (suc j)) d (le_of_suc-le-suc h)
 
 -- A list with the elements of a table is that table.
 pub list_is_table : {X : Type 0} (n : ℕ) (f : ℕ → X) (d : X) (xs : List X) → length xs ≡ n → ((k : ℕ) → k < n → get_or xs k d ≡ f k) → xs ≡ table n f

@@ -1,10 +1,15 @@
 -- Document 01, "Layout", its sentences on growth: a leftover L and a grow sum T, shared out by largest remainder.
-use Rattle.std.specs.Prelude.{ℕ, zero, suc, ◌+◌, ◌-◌, ◌*◌, ◌/◌, ◌%◌, min, cond, List, [], ◌∷◌, ltb, eqb, get_or, ℤ, pos, negsuc}
+use Rattle.std.specs.Prelude.{ℕ, zero, suc, ◌+◌, ◌-◌, ◌*◌, ◌/◌, ◌%◌, min, cond, List, [], ◌∷◌, ltb, eqb, get_or, ℤ, pos, negsuc, ◌+ℤ◌}
 
 -- f 0 + .. + f (n - 1).
 unfoldable pub sum_to : (ℕ → ℕ) → ℕ → ℕ
 sum_to f zero = 0
 sum_to f (suc n) = sum_to f n + f n
+
+-- The sum of a list of whole numbers of either sign.
+unfoldable pub total : List ℤ → ℤ
+total [] = pos 0
+total (x ∷ xs) = x +ℤ total xs
 
 -- The list f 0, .., f (n - 1).
 unfoldable pub table {ℓ} : {X : Type ℓ} → ℕ → (ℕ → X) → List X

@@ -3,13 +3,13 @@ use mathlib.Core.Path.{◌≡◌, refl}
 use mathlib.Core.List.{[], map}
 use Rattle.arithmetic.specs.Tests.{within, same, δ}
 use Rattle.arithmetic.specs.Scalar.{stop, add_sat, sub_sat, gap_times, max_of, unsigned_of}
-use Rattle.arithmetic.specs.Growth.{sum_to, table, comes_before, rank, grow_sum, whole_share, remainder, missing, share_with_unit, share, plan_growth}
+use Rattle.arithmetic.specs.Growth.{sum_to, total, table, comes_before, rank, grow_sum, whole_share, remainder, missing, share_with_unit, share, plan_growth}
 use Rattle.text.specs.Utf8.{is_scalar, encoded, encoded_all}
 use Rattle.text.specs.Steps.{front}
 use Rattle.field.specs.Text.{bytes_of, caret_of, goes_in, typed, keyed}
 use Rattle.field.specs.Marks.{takes}
 use Rattle.field.specs.Metres.{value_of, behind, plain_metres, trimmed, point_for, metres_of}
-use Rattle.boxes.specs.Layout.{outer, summed, content, want, offset, total, boxes, place, holds}
+use Rattle.boxes.specs.Layout.{outer, summed, content, want, offset, boxes, place, holds}
 use Rattle.boxes.specs.States.{entry_of, patch_style, touches, in_pool, bits_of}
 use Rattle.boxes.specs.Pointers.{first_pointer}
 use Rattle.boxes.specs.Nodes.{wears, swaps, bits_for, restyled, bare}

@@ -1,8 +1,8 @@
 -- Document 01, **Layout**: what a node wants to be, where it places its children, and a pass over the tree.
-use Rattle.std.specs.Prelude.{ℕ, suc, Bool, ◌&&◌, cond, List, [], ◌∷◌, map, ℤ, pos, ◌+ℤ◌, length, get_or, set, take}
+use Rattle.std.specs.Prelude.{ℕ, suc, Bool, ◌&&◌, cond, List, [], ◌∷◌, map, ℤ, pos, length, get_or, set, take}
 use Rattle.std.specs.Int.Signed.{le_z, lt_z}
 use Rattle.arithmetic.specs.Scalar.{add_sat, sub_sat, gap_times, half_of, from_int, max_of}
-use Rattle.arithmetic.specs.Growth.{plan_growth}
+use Rattle.arithmetic.specs.Growth.{total, plan_growth}
 use Rattle.arithmetic.specs.Tests.{same_z}
 use Rattle.arena.specs.Slots.{Slots, kids_at, order}
 use Rattle.boxes.specs.Styles.{layout_at}
@@ -81,10 +81,6 @@ aligned End free = free
 
 unfoldable pub offset : Align → ℤ → ℤ
 offset a free = cond (le_z free (pos 0)) (pos 0) (aligned a free)
-
-unfoldable pub total : List ℤ → ℤ
-total [] = pos 0
-total (x ∷ xs) = x +ℤ total xs
 
 -- A child's box: `cursor` along the main axis and `across` along the other, from the corner of the content, grown along the main axis.
 abbrev pub boxed : Direction → ℤ → ℤ → ℤ → ℤ → ℤ → Child → Rect

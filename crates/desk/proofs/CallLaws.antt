@@ -27,7 +27,7 @@ use Rattle.tree.specs.History.Call.{insert, change, ask}
 use Rattle.tree.specs.History.Change.{remove, set_style, set_state_table, set_patch_pool, make_field, solve, handle, next_output, confirm, next_ship}
 use Rattle.desk.specs.Demand3.{step, change_step}
 use Rattle.desk.specs.CallLaws.{ARefusedCallChangesNothing, ABrokenTreeIsRefused, OnlyABrokenTreeIsRefusedBy1}
-use Rattle.desk.proofs.FairCalls.{Fair, FairCall, Behind, accepted, refused, either, guarded_is_fair, live_is_fair, confirm_is_fair, question_is_fair}
+use Rattle.desk.proofs.LawfulCalls.{Lawful, LawfulCall, Behind, accepted, refused, either, guarded_is_lawful, live_is_lawful, confirm_is_lawful, question_is_lawful}
 
 module _ (u : Ui) where
   taken : (d : NodeId) (m : Option Field) → Behind u (take_field u d m)
@@ -42,39 +42,39 @@ module _ (u : Ui) where
   oldest [] = accepted u
   oldest (d ∷ ds) = accepted u
 
-  insert_is_fair : (d : NodeId) → FairCall u (tree.insert u d)
+  insert_is_lawful : (d : NodeId) → LawfulCall u (tree.insert u d)
   unfolding tree.insert
-  insert_is_fair d = live_is_fair u d nobody (either u (same u.free NIL) (refused u Full (λ e. omega arith)) (accepted u))
+  insert_is_lawful d = live_is_lawful u d nobody (either u (same u.free NIL) (refused u Full (λ e. omega arith)) (accepted u))
 
-  change_is_fair : (c : Change) → Fair u (change_step u c).number (change_step u c).next
+  change_is_lawful : (c : Change) → Lawful u (change_step u c).number (change_step u c).next
   unfolding tree.remove tree.set_style tree.set_state_table tree.set_patch_pool tree.make_field tree.solve desk.handle desk.next_output marks.next_ship
-  change_is_fair (remove d) = live_is_fair u {A = ℕ} d 0 (either u (same d.index 0) (refused u Root (λ e. omega arith)) (accepted u))
-  change_is_fair (set_style d s) = live_is_fair u {A = ℕ} d 0 (accepted u)
-  change_is_fair (set_state_table d table) = live_is_fair u {A = ℕ} d 0 (either u (all (in_pool u.patch_count) table) (accepted u) (refused u Foreign (λ e. omega arith)))
-  change_is_fair (set_patch_pool patches count) = guarded_is_fair u {A = ℕ} 0 (either u (ltb 64 count) (refused u Long (λ e. omega arith)) (accepted u))
-  change_is_fair (make_field d) = live_is_fair u {A = ℕ} d 0 (taken d (field_of d u.fields))
-  change_is_fair (solve v) = guarded_is_fair u {A = ℕ} 0 (either u (not u.dirty && same_view u.solved_for v) (accepted u) (accepted u))
-  change_is_fair (handle e) = guarded_is_fair u {A = ℕ} 0 (accepted u)
-  change_is_fair next_output = guarded_is_fair u None (oldest (waiting_of u))
-  change_is_fair (confirm d) = confirm_is_fair u d
-  change_is_fair next_ship = guarded_is_fair u {A = ℕ} 0 (accepted u)
+  change_is_lawful (remove d) = live_is_lawful u {A = ℕ} d 0 (either u (same d.index 0) (refused u Root (λ e. omega arith)) (accepted u))
+  change_is_lawful (set_style d s) = live_is_lawful u {A = ℕ} d 0 (accepted u)
+  change_is_lawful (set_state_table d table) = live_is_lawful u {A = ℕ} d 0 (either u (all (in_pool u.patch_count) table) (accepted u) (refused u Foreign (λ e. omega arith)))
+  change_is_lawful (set_patch_pool patches count) = guarded_is_lawful u {A = ℕ} 0 (either u (ltb 64 count) (refused u Long (λ e. omega arith)) (accepted u))
+  change_is_lawful (make_field d) = live_is_lawful u {A = ℕ} d 0 (taken d (field_of d u.fields))
+  change_is_lawful (solve v) = guarded_is_lawful u {A = ℕ} 0 (either u (not u.dirty && same_view u.solved_for v) (accepted u) (accepted u))
+  change_is_lawful (handle e) = guarded_is_lawful u {A = ℕ} 0 (accepted u)
+  change_is_lawful next_output = guarded_is_lawful u None (oldest (waiting_of u))
+  change_is_lawful (confirm d) = confirm_is_lawful u d
+  change_is_lawful next_ship = guarded_is_lawful u {A = ℕ} 0 (accepted u)
 
-  call_is_fair : (c : Call) → Fair u (step u c).number (step u c).next
+  call_is_lawful : (c : Call) → Lawful u (step u c).number (step u c).next
   unfolding step
-  call_is_fair (insert d) = insert_is_fair d
-  call_is_fair (change c) = change_is_fair c
-  call_is_fair (ask q) = question_is_fair u q
+  call_is_lawful (insert d) = insert_is_lawful d
+  call_is_lawful (change c) = change_is_lawful c
+  call_is_lawful (ask q) = question_is_lawful u q
 
 -- ---- the laws
 
 pub a_refused_call_changes_nothing : ARefusedCallChangesNothing
-a_refused_call_changes_nothing u c = (call_is_fair u c).back
+a_refused_call_changes_nothing u c = (call_is_lawful u c).back
 
 pub a_broken_tree_is_refused : ABrokenTreeIsRefused
 a_broken_tree_is_refused u c b =
-    let f = call_is_fair u c in
+    let f = call_is_lawful u c in
     let e = f.by_1 b in
     (e, f.back (λ z. omega arith))
 
 pub only_a_broken_tree_is_refused_by_1 : OnlyABrokenTreeIsRefusedBy1
-only_a_broken_tree_is_refused_by_1 u c e = bool_cases (broken u) (λ b. b) (λ b. absurd ((call_is_fair u c).not_by_1 b e))
+only_a_broken_tree_is_refused_by_1 u c e = bool_cases (broken u) (λ b. b) (λ b. absurd ((call_is_lawful u c).not_by_1 b e))

@@ -3,6 +3,7 @@ use mathlib.Core.Path.{◌≡◌, refl}
 use mathlib.Core.List.{List, [], ◌∷◌, ◌++◌}
 use lib.IntN.{pos, negsuc}
 use Rattle.arithmetic.specs.Scalar.{stop, add_sat, sub_sat, gap_times, max_of, unsigned_of}
+use Rattle.arithmetic.specs.Growth.{total}
 use Rattle.arithmetic.specs.Fold.{empty_hash, fnv_byte, fold_bytes, low_bytes, absorbed}
 use Rattle.text.specs.Reader.{run_from, is_utf8}
 use Rattle.field.specs.Fields.{empty_field, in_range, text_ok, mark_ok, field_ok}
@@ -13,7 +14,7 @@ use Rattle.tree.specs.Slots.{at, put, is_live, chain, kids_at, order, link_after
 use Rattle.tree.specs.Styles.{layout_at, state_at}
 use Rattle.tree.specs.States.{entry_of, in_pool, wear, bits_of, wear_all, live_slot, bearing, state_well}
 use Rattle.tree.specs.Wearing.{bits_at, refreshed}
-use Rattle.tree.specs.Layout.{outer, summed, content, want, offset, total, boxes, place, measure_at, measure_all, set_rects, arrange_at, arrange_all, passed, holds}
+use Rattle.tree.specs.Layout.{outer, summed, content, want, offset, boxes, place, measure_at, measure_all, set_rects, arrange_at, arrange_all, passed, holds}
 use Rattle.tree.specs.Hit.{last_of, descend, holds_at, hit_at}
 use Rattle.tree.specs.Pointers.{first_pointer}
 use Rattle.tree.specs.Rules.{kids_well, node_well, free_well, each_once, linked, distinct, owners_well}

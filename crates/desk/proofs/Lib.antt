@@ -12,7 +12,7 @@ pub mod AnswerLaws
 pub mod ReadSteps
 pub mod MarkSteps
 pub mod CallSteps
-pub mod FairCalls
+pub mod LawfulCalls
 pub mod CallLaws
 pub mod NotBrokenStays
 pub mod PassBoxes

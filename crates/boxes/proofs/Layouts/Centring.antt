@@ -11,11 +11,11 @@ use lib.IntN.{ℤ, pos, negsuc, ◌+ℤ◌, +ℤ_idl}
 use lib.ListN.{get_or, take}
 use lib.Signed.{mag, le_z}
 use Rattle.arithmetic.specs.Scalar.{stop, add_sat, sub_sat, half_of}
-use Rattle.arithmetic.specs.Growth.{sum_to, grow_sum, plan_growth}
+use Rattle.arithmetic.specs.Growth.{sum_to, total, grow_sum, plan_growth}
 use Rattle.arithmetic.specs.Halves.{CentresOnPixels}
 use Rattle.arithmetic.proofs.Halves.{half_on_whole_pixels}
 use Rattle.arithmetic.proofs.Signed.{stop_keeps_what_fits}
-use Rattle.boxes.specs.Layout.{Child, Axes, Extent, axes, extent, outer, content, summed, total, offset, place, boxes, boxed}
+use Rattle.boxes.specs.Layout.{Child, Axes, Extent, axes, extent, outer, content, summed, offset, place, boxes, boxed}
 use Rattle.boxes.specs.Centring.{CentredOnWholePixels, free_across, free_down}
 use Rattle.boxes.specs.Support.Views.{box_at, inner_of}
 use Rattle.boxes.proofs.Layouts.Contents.{content_of_few, boxed_by_parts}

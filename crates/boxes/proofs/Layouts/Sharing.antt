@@ -14,12 +14,12 @@ use lib.ListN.{get_or, drop, take, length, length-map, replicate, length-replica
 use lib.Signed.{mag, le_z}
 use lib.Seq.{sets, sets-eq, get_or-drop}
 use Rattle.arithmetic.specs.Scalar.{stop, add_sat, sub_sat}
-use Rattle.arithmetic.specs.Growth.{sum_to, table, comes_before, rank, grow_sum, whole_share, remainder, missing, share_with_unit, share, plan_growth}
+use Rattle.arithmetic.specs.Growth.{sum_to, total, table, comes_before, rank, grow_sum, whole_share, remainder, missing, share_with_unit, share, plan_growth}
 use Rattle.arithmetic.proofs.Signed.{stop_keeps_what_fits}
 use Rattle.arithmetic.proofs.GrowthPlans.{plan_of_no_leftover, plan_of_no_grow}
 use borrow.Author.Tests.{ltb-true, ltb-false, leb-false, lt-ltb}
-use Rattle.arithmetic.proofs.GrowthTheorems.{units_at, plan_length, shares_are_not_negative, shares_sum_to_leftover}
-use Rattle.boxes.specs.Layout.{Child, total, boxes, place, content, offset}
+use Rattle.arithmetic.proofs.Fair.{fair_shares}
+use Rattle.boxes.specs.Layout.{Child, boxes, place, content, offset}
 use Rattle.boxes.specs.Support.Views.{no_shares, inner_of, box_at, past_of}
 use Rattle.boxes.proofs.Layouts.Placing.{boxes_more, grow_of, no_grows}
 use Rattle.boxes.specs.declared.Rect.{Rect}
@@ -53,26 +53,12 @@ padded_read g h k =
 
 -- ---- the sum
 
-front_first : (u : ℕ → ℕ) (n : ℕ) → sum_to u (suc n) ≡ u 0 + sum_to (λ k. u (suc k)) n
-unfolding sum_to
-front_first u zero = omega arith
-front_first u (suc n) = omega (arith, front_first u n)
-
-total_up : (n : ℕ) (shares : List ℤ) (u : ℕ → ℕ) → n ≤ length shares → ((k : ℕ) → get_or shares k (pos 0) ≡ pos (u k)) → total (take n shares) ≡ pos (sum_to u n)
-unfolding total sum_to
-total_up zero shares u h are = refl
-total_up (suc n) [] u h are = absurd (omega arith)
-total_up (suc n) (x ∷ xs) u h are =
-    let rest : total (take n xs) ≡ pos (sum_to (λ k. u (suc k)) n) = total_up n xs (λ k. u (suc k)) (omega arith) (λ k. are (suc k)) in
-    ap (λ (z : ℤ). z +ℤ total (take n xs)) (are 0) ∙ ap (λ (z : ℤ). pos (u 0) +ℤ z) rest ∙ ap pos (sym (front_first u n))
-
 -- all of a leftover is shared where one grows
 whole_shared : (l : ℕ) (g : List ℕ) (count : ℕ) → count ≤ 128 → 0 < l → 0 < grow_sum g count → total (take count (plan_growth (pos l) g count)) ≡ pos l
 whole_shared l g count few some grows =
     let n : min count 128 ≡ count = omega arith in
     let positive : 0 < grow_sum g (min count 128) = rw n grows in
-    total_up count (plan_growth (pos l) g count) (units_at (pos l) g count) (omega (arith, plan_length (pos l) g count)) (shares_are_not_negative (pos l) g count)
-    ∙ ap pos (shares_sum_to_leftover l g count count some positive (omega arith))
+    rw n at (fair_shares.fair l g count some positive).sum_is_the_leftover
 
 total_of_none : (n m : ℕ) → total (take n (replicate m (pos 0))) ≡ pos 0
 unfolding total

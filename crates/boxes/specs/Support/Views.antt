@@ -1,8 +1,8 @@
 -- What layout's code hands around, as the records of its definitions.
 use Rattle.arithmetic.specs.Scalar.{add_sat, sub_sat, max_of}
-use Rattle.arithmetic.specs.Growth.{plan_growth}
+use Rattle.arithmetic.specs.Growth.{total, plan_growth}
 use Rattle.std.specs.Prelude.{ℕ, List, ◌≡◌, ℤ, pos, length, replicate, take}
-use Rattle.boxes.specs.Layout.{Axes, Extent, Child, axes, outer, summed, total, offset, boxed}
+use Rattle.boxes.specs.Layout.{Axes, Extent, Child, axes, outer, summed, offset, boxed}
 use Rattle.boxes.specs.declared.Direction.{Direction}
 use Rattle.boxes.specs.declared.Direction.TheVariants.{Row, Column}
 use Rattle.boxes.specs.declared.Style.{Style}

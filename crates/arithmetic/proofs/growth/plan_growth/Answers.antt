@@ -1,8 +1,8 @@
 -- `plan_growth` gives the planned shares: none where nothing is left over or nothing grows, otherwise the whole shares with the missing units given.
 -- Assumes nothing.
-use mathlib.Core.Path.{◌≡◌, sym, ◌∙◌, ap, ap₂, subst}
+use mathlib.Core.Path.{◌≡◌, refl, sym, ◌∙◌, ap}
 use mathlib.Core.Bool.{false}
-use Prim.Native.Nat.{ℕ, ◌-◌, ◌<◌, ◌^◌, min}
+use Prim.Native.Nat.{ℕ, ◌<◌, ◌^◌, min}
 use native.Mathlib.Omega.{arith}
 use borrow.Author.Rules.{rules}
 use lib.IntN.{ℤ, pos, negsuc, nat_abs}
@@ -12,9 +12,9 @@ use lib.Signed.{le_z}
 use mir.Syntax.{w64}
 use mir.Val.{SFits}
 use mir.Facts.{to_z-of_z}
-use Rattle.arithmetic.specs.Growth.{table, grow_sum}
+use Rattle.arithmetic.specs.Growth.{table, grow_sum, missing}
 use Rattle.arithmetic.specs.declared.growth.Parts.{Parts}
-use Rattle.arithmetic.specs.Support.Steps.{PartsOf, RoomForUnits, with_unit}
+use Rattle.arithmetic.specs.Support.Steps.{PartsOf}
 use Rattle.arithmetic.proofs.GrowthPlans.{grow_sum_of_front, parts_of_front, plan_of_no_leftover, plan_of_no_grow, parts_have_room, plan_by_parts}
 use Rattle.arithmetic.proofs.growth.plan_growth.Goals as goal
 use Rattle.arithmetic.proofs.growth.plan_growth.Goals.{After-grow_sum-t}
@@ -70,19 +70,15 @@ module _ (c : goal.After-struct_known-1) where
       let e = front_is before in
       parts_of_front (nat_abs c.args.leftover) c.args.grows places (rw (l, e) at c.whole_shares-parts.ensures)
 
-  -- how many units are missing, and of how many places
-  missing_is : c.unsigned_abs-l.result - given.given ≡ nat_abs c.args.leftover - given.given
-  missing_is = ap (λ (x : ℕ). x - given.given) leftover_is
-
 pub give_units-requires : goal.give_units-requires
+unfolding missing
 give_units-requires c =
-    subst (λ (m : ℕ). RoomForUnits (given c).shares (given c).keys m (c.unsigned_abs-l.result - (given c).given)) (sym (front_is (before c)))
-    (subst (λ (m : ℕ). RoomForUnits (given c).shares (given c).keys (places c) m) (sym (missing_is c))
-    (parts_have_room _ _ _ _ _ _ (some_grow c) (parts c) (positive_below_end c.args.leftover (left_over c) c.ranges.leftover) (omega (arith, n_is (before c)))))
+    rw (front_is (before c))
+    (parts_have_room _ _ _ _ _ _ _ (some_grow c) (parts c) (simp (leftover_is c, (parts c).given_is) refl) (positive_below_end c.args.leftover (left_over c) c.ranges.leftover) (omega (arith, n_is (before c))))
 
 pub returns : goal.returns
+unfolding missing
 returns c =
     let b = c.before in
-    c.give_units.ensures
-    ∙ ap₂ (λ (m k : ℕ). table 128 (with_unit (given b).shares (given b).keys m k)) (front_is (before b)) (missing_is b)
-    ∙ plan_by_parts c.args.leftover _ _ _ _ _ _ (n_is (before b)) (left_over b) (some_grow b) (parts b)
+    let units = rw (front_is (before b)) at c.give_units.ensures in
+    units ∙ plan_by_parts c.args.leftover _ _ _ _ _ _ _ (n_is (before b)) (left_over b) (some_grow b) (parts b) (simp (leftover_is b, (parts b).given_is) refl)

@@ -8,7 +8,7 @@ use lib.Seq.{get_or-set_other}
 use mir.Syntax.{w64}
 use mir.Facts.{to_z_pos}
 use Rattle.arithmetic.specs.Growth.{grow_sum, whole_share, remainder}
-use Rattle.arithmetic.proofs.GrowthShares.{whole_shares_within_leftover, divided_is_share, rest_is_remainder, sum_with_share, sum_within_leftover}
+use Rattle.arithmetic.proofs.GrowthShares.{whole_shares_within_leftover, divided_is_share, sum_with_share, sum_within_leftover}
 use Rattle.arithmetic.proofs.Sums.{sum_of_none, summand_at_most_sum, filled_one_further, repeated_at}
 use Rattle.arithmetic.proofs.growth.whole_shares.Goals as goal
 
@@ -24,25 +24,25 @@ mul_div-s-requires c =
     }
 
 pub overflow_cast-shares : goal.overflow_cast-shares
-overflow_cast-shares c = omega (arith, sum_within_leftover _ _ _ _ _ _ _ c.requires.2 c.requires.3 c.loop-i-test.true c.mul_div-s.ensures.0 c.mul_div-s.ensures.1 c.loop-i.invariant.5)
+overflow_cast-shares c = omega (arith, sum_within_leftover _ _ _ _ _ _ c.requires.2 c.requires.3 c.loop-i-test.true c.mul_div-s.ensures.0 c.loop-i.invariant.5)
 
 pub overflow_add-given : goal.overflow_add-given
-overflow_add-given c = omega (arith, sum_within_leftover _ _ _ _ _ _ _ c.requires.2 c.requires.3 c.loop-i-test.true c.mul_div-s.ensures.0 c.mul_div-s.ensures.1 c.loop-i.invariant.5)
+overflow_add-given c = omega (arith, sum_within_leftover _ _ _ _ _ _ c.requires.2 c.requires.3 c.loop-i-test.true c.mul_div-s.ensures.0 c.loop-i.invariant.5)
 
 pub loop-i-preserved : goal.loop-i-preserved
+unfolding remainder
 loop-i-preserved c =
     let v = c.loop-i.invariant in
     let s = c.args in
     let n : ℕ = length s.grows.now in
-    let share = divided_is_share _ _ _ _ _ _ _ c.requires.2 c.requires.3 c.loop-i-test.true c.mul_div-s.ensures.0 c.mul_div-s.ensures.1 c.loop-i.invariant.5 in
-    let rest = rest_is_remainder _ _ _ _ _ _ _ c.requires.2 c.requires.3 c.loop-i-test.true c.mul_div-s.ensures.0 c.mul_div-s.ensures.1 c.loop-i.invariant.5 in
-    let room = sum_within_leftover _ _ _ _ _ _ _ c.requires.2 c.requires.3 c.loop-i-test.true c.mul_div-s.ensures.0 c.mul_div-s.ensures.1 c.loop-i.invariant.5 in (
+    let share = divided_is_share _ _ _ _ _ _ c.requires.2 c.requires.3 c.loop-i-test.true c.mul_div-s.ensures.0 c.loop-i.invariant.5 in
+    let room = sum_within_leftover _ _ _ _ _ _ c.requires.2 c.requires.3 c.loop-i-test.true c.mul_div-s.ensures.0 c.loop-i.invariant.5 in (
       simp length-set v.0,
       simp length-set v.1,
       filled_one_further (λ (k : ℕ). pos (whole_share s.l s.grows.now n k)) c.loop-i.shares _ _ (pos 0) (omega arith) (to_z_pos w64 (omega arith) ∙ ap pos share) v.2,
       (λ k h. get_or-set_other c.loop-i.shares _ k _ (pos 0) (λ e. omega arith) ∙ v.3 k (omega arith)),
-      filled_one_further (λ (k : ℕ). remainder s.l s.grows.now n k + 1) c.loop-i.keys _ _ 0 (omega arith) (ap (λ (x : ℕ). x + 1) rest) v.4,
-      sum_with_share _ _ _ _ _ _ _ c.requires.2 c.requires.3 c.loop-i-test.true c.mul_div-s.ensures.0 c.mul_div-s.ensures.1 c.loop-i.invariant.5,
+      filled_one_further (λ (k : ℕ). remainder s.l s.grows.now n k + 1) c.loop-i.keys _ _ 0 (omega arith) (simp (c.mul_div-s.ensures.1, c.requires.2) refl) v.4,
+      sum_with_share _ _ _ _ _ _ c.requires.2 c.requires.3 c.loop-i-test.true c.mul_div-s.ensures.0 c.loop-i.invariant.5,
     )
 
 pub returns : goal.returns

@@ -38,13 +38,13 @@ use Rattle.tree.specs.History.Question.{field_text, field_cursor, metres, rect, 
 use Rattle.desk.specs.Demand3.{number_asked}
 
 -- A call's number and next tree.
-pub record Fair (u : Ui) (number : ℕ) (next : Ui) : Type 0 where
+pub record Lawful (u : Ui) (number : ℕ) (next : Ui) : Type 0 where
   pub back : (number ≡ 0 → ⊥) → next ≡ u
   pub by_1 : broken u ≡ true → number ≡ 1
   pub not_by_1 : broken u ≡ false → number ≡ 1 → ⊥
 
-abbrev pub FairCall : {A : Type 0} → Ui → Outcome A → Type 0
-FairCall u o = Fair u o.answer.number o.next
+abbrev pub LawfulCall : {A : Type 0} → Ui → Outcome A → Type 0
+LawfulCall u o = Lawful u o.answer.number o.next
 
 -- What stands behind the test of the rules.
 pub record Behind {A : Type 0} (u : Ui) (o : Outcome A) : Type 0 where
@@ -73,22 +73,22 @@ module _ (u : Ui) where
   pub either : {A : Type 0} (b : Bool) {o o' : Outcome A} → Behind u o → Behind u o' → Behind u (cond b o o')
   either b x y = pick_of (Behind u) b (λ _. x) (λ _. y)
 
-  pub guarded_is_fair : {A : Type 0} (none : A) {o : Outcome A} → Behind u o → FairCall u (guarded u none o)
+  pub guarded_is_lawful : {A : Type 0} (none : A) {o : Outcome A} → Behind u o → LawfulCall u (guarded u none o)
   unfolding guarded
-  guarded_is_fair {A} none {o} x = go (broken u) refl
+  guarded_is_lawful {A} none {o} x = go (broken u) refl
     where
-      go : (b : Bool) → broken u ≡ b → FairCall u (cond b (refuses u Broken none) o)
+      go : (b : Bool) → broken u ≡ b → LawfulCall u (cond b (refuses u Broken none) o)
       go true e = record { back = λ _. refl; by_1 = λ _. refl; not_by_1 = λ f _. no_more (sym f ∙ e) }
       go false e = record { back = x.back; by_1 = λ t. no_more (sym e ∙ t); not_by_1 = x.not_by_1 }
 
-  pub live_is_fair : {A : Type 0} (d : NodeId) (none : A) {o : Outcome A} → Behind u o → FairCall u (on_live u d none o)
+  pub live_is_lawful : {A : Type 0} (d : NodeId) (none : A) {o : Outcome A} → Behind u o → LawfulCall u (on_live u d none o)
   unfolding on_live
-  live_is_fair d none x = guarded_is_fair none (either (is_live (limit_of u) u.slots d) x (refused Missing (λ e. omega arith)))
+  live_is_lawful d none x = guarded_is_lawful none (either (is_live (limit_of u) u.slots d) x (refused Missing (λ e. omega arith)))
 
   -- a field of a tree that is not broken keeps its rules
-  read_is_fair : {A : Type 0} (d : NodeId) (none : A) (read : Field → Outcome A) → ((f : Field) → (broken u ≡ false → field_ok f ≡ true) → Behind u (read f)) → FairCall u (on_field u d none read)
+  read_is_lawful : {A : Type 0} (d : NodeId) (none : A) (read : Field → Outcome A) → ((f : Field) → (broken u ≡ false → field_ok f ≡ true) → Behind u (read f)) → LawfulCall u (on_field u d none read)
   unfolding on_field
-  read_is_fair d none read x = live_is_fair d none (go (field_of d u.fields) refl)
+  read_is_lawful d none read x = live_is_lawful d none (go (field_of d u.fields) refl)
     where
       go : (m : Option Field) → field_of d u.fields ≡ m → Behind u (of_field u none read m)
       go None e = refused Fieldless (λ z. omega arith)
@@ -96,27 +96,27 @@ module _ (u : Ui) where
           x f (λ b. found_field_is_ruled (λ g. field_ok g ≡ true) d u.fields f (a_test_of_all_is_of_each field_ok u.fields (a_tree_not_broken_keeps_each_rule u b).fields) e)
 
   -- a confirmation, too
-  pub confirm_is_fair : (d : NodeId) → FairCall u (marks.confirm u d)
+  pub confirm_is_lawful : (d : NodeId) → LawfulCall u (marks.confirm u d)
   unfolding marks.confirm field_metres
-  confirm_is_fair d =
-      read_is_fair d 0 (confirm_field u d) (λ f r. either (same (field_metres f).number 0) accepted
+  confirm_is_lawful d =
+      read_is_lawful d 0 (confirm_field u d) (λ f r. either (same (field_metres f).number 0) accepted
       (record { back = λ _. refl; not_by_1 = λ b. rw (r b) (metres_are_not_by_1 (held f)) }))
 
   -- a read leaves the tree as it is
-  asked : {n : ℕ} {v : Ui} → Fair u n v → Fair u n u
+  asked : {n : ℕ} {v : Ui} → Lawful u n v → Lawful u n u
   asked f = record { back = λ _. refl; by_1 = f.by_1; not_by_1 = f.not_by_1 }
 
-  pub question_is_fair : (q : Question) → Fair u (number_asked u q) u
+  pub question_is_lawful : (q : Question) → Lawful u (number_asked u q) u
   unfolding tree.field_text tree.field_cursor desk.metres tree.rect tree.live tree.first_child tree.next_sibling desk.absorb marks.confirmed_metres marks.marked_text field_metres
-  question_is_fair (field_text d) = asked (read_is_fair d no_text (λ f. gives u (shown f)) (λ f _. accepted))
-  question_is_fair (field_cursor d) = asked (read_is_fair d 0 (λ f. gives u f.cursor) (λ f _. accepted))
-  question_is_fair (metres d) =
-      asked (read_is_fair d 0 (λ f. record { next = u; answer = field_metres f }) (λ f r. record { back = λ _. refl; not_by_1 = λ b. rw (r b) (metres_are_not_by_1 (held f)) }))
-  question_is_fair (rect d) = asked (live_is_fair d no_rect accepted)
-  question_is_fair (live d) = asked (guarded_is_fair false accepted)
-  question_is_fair (first_child d) = asked (guarded_is_fair None accepted)
-  question_is_fair (next_sibling d) = asked (live_is_fair d None accepted)
-  question_is_fair (absorb s) = asked (guarded_is_fair {A = ℕ} 0 accepted)
-  question_is_fair (confirmed_metres d) =
-      asked (read_is_fair d 0 (λ f. record { next = u; answer = metres_of_view (view_of f) }) (λ f _. record { back = λ _. refl; not_by_1 = λ _. confirmed_is_not_by_1 f.mark (held f) }))
-  question_is_fair (marked_text d) = asked (read_is_fair d no_marked (λ f. gives u (shown_marked f)) (λ f _. accepted))
+  question_is_lawful (field_text d) = asked (read_is_lawful d no_text (λ f. gives u (shown f)) (λ f _. accepted))
+  question_is_lawful (field_cursor d) = asked (read_is_lawful d 0 (λ f. gives u f.cursor) (λ f _. accepted))
+  question_is_lawful (metres d) =
+      asked (read_is_lawful d 0 (λ f. record { next = u; answer = field_metres f }) (λ f r. record { back = λ _. refl; not_by_1 = λ b. rw (r b) (metres_are_not_by_1 (held f)) }))
+  question_is_lawful (rect d) = asked (live_is_lawful d no_rect accepted)
+  question_is_lawful (live d) = asked (guarded_is_lawful false accepted)
+  question_is_lawful (first_child d) = asked (guarded_is_lawful None accepted)
+  question_is_lawful (next_sibling d) = asked (live_is_lawful d None accepted)
+  question_is_lawful (absorb s) = asked (guarded_is_lawful {A = ℕ} 0 accepted)
+  question_is_lawful (confirmed_metres d) =
+      asked (read_is_lawful d 0 (λ f. record { next = u; answer = metres_of_view (view_of f) }) (λ f _. record { back = λ _. refl; not_by_1 = λ _. confirmed_is_not_by_1 f.mark (held f) }))
+  question_is_lawful (marked_text d) = asked (read_is_lawful d no_marked (λ f. gives u (shown_marked f)) (λ f _. accepted))
