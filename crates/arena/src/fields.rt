@@ -18,27 +18,26 @@ fn owns(d: NodeId, f: &Field) -> bool
 }
 
 // The place of the node's own field: the first, where more than one has this owner.
-pub fn field_place(fields: [Field; 8], d: NodeId) -> Option<usize>
-    ensures { (result ≡ place_of d fields) × (field_at fields result ≡ field_of d fields) }
+pub fn field_place(fields: &[Field; 8], d: NodeId) -> Option<usize>
+    ensures { (result ≡ place_of d fields.now) × (field_at fields.now result ≡ field_of d fields.now) }
 {
     fields.iter().position(|f| owns(d, f))
 }
 
 // The field at a place; past the eight an empty one.
-pub fn field_at(fields: [Field; 8], i: usize) -> Field
-    ensures { result ≡ slice_index_or fields i empty_field }
+pub fn field_at(fields: &[Field; 8], i: usize) -> Field
+    ensures { result ≡ slice_index_or fields.now i empty_field }
 {
     fields.get(i).copied().unwrap_or(Field::empty())
 }
 
-// The fields with another at a place; past the eight nothing is stored.
-pub fn with_field(mut fields: [Field; 8], i: usize, f: Field) -> [Field; 8]
-    ensures { result ≡ slice_set fields i f }
+// Another field at a place; past the eight nothing is stored.
+pub fn set_field(fields: &mut [Field; 8], i: usize, f: Field)
+    ensures { fields.new ≡ slice_set fields.old i f }
 {
     if i < fields.len() {
         fields[i] = f;
     }
-    fields
 }
 
 // Whether the field is nobody's.
@@ -49,25 +48,24 @@ fn is_vacant(f: Field) -> bool
 }
 
 // Whether every field is somebody's.
-pub fn all_taken(fields: [Field; 8]) -> bool
-    ensures { result ≡ all (λ (f : Field). not (vacant f)) fields }
+pub fn all_taken(fields: &[Field; 8]) -> bool
+    ensures { result ≡ all (λ (f : Field). not (vacant f)) fields.now }
 {
     fields.iter().all(|f| !is_vacant(*f))
 }
 
-// The fields with the first free one the node's; as they are where none is free.
-pub fn claim(d: NodeId, mut fields: [Field; 8]) -> [Field; 8]
-    ensures { result ≡ claimed d fields }
+// The first free field is the node's from now on, where one is free.
+pub fn claim(d: NodeId, fields: &mut [Field; 8])
+    ensures { fields.new ≡ claimed d fields.old }
 {
     if let Some(i) = fields.iter().position(|f| is_vacant(*f)) {
         fields[i] = Field::owned(d);
     }
-    fields
 }
 
 // The field, or an empty one of nobody where its owner is dead.
-fn reclaim_one(limit: u32, slots: [Slot; 128], f: Field) -> Field
-    ensures { result ≡ (if owner_dead limit slots f.owner then empty_field else f) }
+fn reclaim_one(limit: u32, slots: &[Slot; 128], f: Field) -> Field
+    ensures { result ≡ (if owner_dead limit slots.now f.owner then empty_field else f) }
 {
     match f.owner {
         Some(d) if !links::is_live(limit, slots, d) => Field::empty(),
@@ -75,28 +73,28 @@ fn reclaim_one(limit: u32, slots: [Slot; 128], f: Field) -> Field
     }
 }
 
-// The fields, those of dead owners nobody's and empty.
+// Fields of dead owners are nobody's and empty from now on.
 #[tactic(auto, unfolding(crate::specs::Fields::reclaimed))]
-pub fn reclaim(limit: u32, slots: [Slot; 128], mut fields: [Field; 8]) -> [Field; 8]
-    ensures { result ≡ reclaimed limit slots fields }
+pub fn reclaim(limit: u32, slots: &[Slot; 128], fields: &mut [Field; 8])
+    ensures { fields.new ≡ reclaimed limit slots.now fields.old }
 {
     for f in fields.iter_mut() {
         *f = reclaim_one(limit, slots, *f);
     }
-    fields
 }
 
-// The fields for the next ship: none is confirmed any more, those of dead owners neither.
-pub fn unconfirmed(mut fields: [Field; 8]) -> [Field; 8]
-    ensures { result ≡ map unconfirmed fields }
+// For the next ship: no field is confirmed any more, those of dead owners neither.
+pub fn unconfirm(fields: &mut [Field; 8])
+    ensures { fields.new ≡ map unconfirmed fields.old }
 {
     for f in fields.iter_mut() {
         *f = f.unconfirmed();
     }
-    fields
 }
 
 // Whether none of the fields has this owner; a field of nobody has none to share.
+// Not built into its caller, for what `tree::rules::broken` says.
+#[inline(never)]
 fn is_lone(fields: &[Field], owner: Option<NodeId>) -> bool
     ensures { result ≡ lone owner fields.now }
 {
@@ -107,9 +105,11 @@ fn is_lone(fields: &[Field], owner: Option<NodeId>) -> bool
 }
 
 // Whether no two fields have one owner.
+// Not built into its caller, for what `tree::rules::broken` says.
+#[inline(never)]
 #[tactic(auto, unfolding(crate::specs::Rules::owners_well))]
-pub fn owners_well(fields: [Field; 8]) -> bool
-    ensures { result ≡ owners_well fields }
+pub fn owners_well(fields: &[Field; 8]) -> bool
+    ensures { result ≡ owners_well fields.now }
 {
     let mut rest = &fields[..];
     while let Some((f, after)) = rest.split_first() {
@@ -122,8 +122,8 @@ pub fn owners_well(fields: [Field; 8]) -> bool
 }
 
 // Whether each field keeps the rules for one.
-pub fn fields_ok(fields: [Field; 8]) -> bool
-    ensures { result ≡ all field_ok fields }
+pub fn fields_ok(fields: &[Field; 8]) -> bool
+    ensures { result ≡ all field_ok fields.now }
 {
     fields.iter().all(|f| f.sound())
 }

@@ -1,4 +1,4 @@
-// Slots, their links and the ids that name them; the link rules; the fields and their owners. All over arrays by value.
+// Slots, their links and the ids that name them; the link rules; the fields and their owners. All over arrays that are lent.
 #![tactic(auto)]
 
 pub mod fields;

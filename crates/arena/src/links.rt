@@ -1,4 +1,4 @@
-// Slots and their links, over the array of slots by value. An index that is no slot reads the zero slot and stores nothing.
+// Slots and their links, over the array of slots, which is lent. An index that is no slot reads the zero slot and stores nothing.
 ghost use Rattle.std.specs.Prelude.{◌≡◌, ◌≤◌};
 ghost use Rattle.arena.specs.Slots.{at, put, is_live, id_at, link_last, idle, next_generation, freed};
 ghost use Rattle.arena.specs.Slots as links;
@@ -10,48 +10,33 @@ use crate::Slot;
 use crate::listed::Listed;
 use field::NodeId;
 
-// The slots after some were freed, and the head of the free chain.
-#[derive(Clone, Copy)]
-pub struct Freed {
-    pub slots: [Slot; 128],
-    pub free: u32,
-}
-
 // No neighbour.
 // Kept: links are numbers of slots, with this one for none, as document 01's source has them; a slot that holds options is larger,
 // and every rule would speak of two forms of each link.
 pub const NIL: u32 = 4294967295;
 
-// Slot i of slots that are lent.
+// Slot i.
 #[tactic(auto, unfolding(crate::specs::Slots::at))]
-pub(crate) fn read(slots: &[Slot; 128], i: u32) -> Slot
+pub fn slot_at(slots: &[Slot; 128], i: u32) -> Slot
     ensures { result ≡ at slots.now i }
 {
     slots.get(i as usize).copied().unwrap_or_default()
 }
 
-// Slot i.
-pub fn slot_at(slots: [Slot; 128], i: u32) -> Slot
-    ensures { result ≡ at slots i }
-{
-    read(&slots, i)
-}
-
-// The slots with s as slot i.
+// Slot i is s from now on.
 #[tactic(auto, unfolding(crate::specs::Slots::put))]
-pub fn with_slot(mut slots: [Slot; 128], i: u32, s: Slot) -> [Slot; 128]
-    ensures { result ≡ put slots i s }
+pub fn set_slot(slots: &mut [Slot; 128], i: u32, s: Slot)
+    ensures { slots.new ≡ put slots.old i s }
 {
     let k = i as usize;
     if k < slots.len() {
         slots[k] = s;
     }
-    slots
 }
 
 // The id that names slot i.
-pub fn id_at(slots: [Slot; 128], i: u32) -> NodeId
-    ensures { result ≡ id_at slots i }
+pub fn id_at(slots: &[Slot; 128], i: u32) -> NodeId
+    ensures { result ≡ id_at slots.now i }
 {
     NodeId {
         index: i,
@@ -62,27 +47,28 @@ pub fn id_at(slots: [Slot; 128], i: u32) -> NodeId
 // Whether the id names a live slot below the limit.
 // Kept: `limit` and `slots` apart, here and above: a struct of both would be built of two fields of a tree at each call, and its contracts name both all the same.
 #[tactic(auto, unfolding(crate::specs::Slots::is_live, arithmetic::specs::Tests::same))]
-pub fn is_live(limit: u32, slots: [Slot; 128], d: NodeId) -> bool
-    ensures { result ≡ is_live limit slots d }
+pub fn is_live(limit: u32, slots: &[Slot; 128], d: NodeId) -> bool
+    ensures { result ≡ is_live limit slots.now d }
 {
     let s = slot_at(slots, d.index);
     (d.index < limit) & (s.live & (s.generation == d.generation))
 }
 
-// The slots with slot i changed.
-fn change<F: FnOnce(Slot) -> Slot>(slots: [Slot; 128], i: u32, f: F) -> [Slot; 128]
+// Slot i is changed.
+fn change<F: FnOnce(Slot) -> Slot>(slots: &mut [Slot; 128], i: u32, f: F)
     requires { F.IsAlwaysCallable f }
-    ensures { (s : Slot) × F.post f (at slots i) s × (result ≡ put slots i s) }
+    ensures { (s : Slot) × F.post f (at slots.old i) s × (slots.new ≡ put slots.old i s) }
 {
-    with_slot(slots, i, f(slot_at(slots, i)))
+    let s = f(slot_at(slots, i));
+    set_slot(slots, i, s);
 }
 
-// The slots with slot `index` as the last child of `parent`.
-pub fn link_last(slots: [Slot; 128], parent: u32, index: u32) -> [Slot; 128]
-    ensures { result ≡ link_last slots parent index }
+// Slot `index` is the last child of `parent` from now on.
+pub fn link_last(slots: &mut [Slot; 128], parent: u32, index: u32)
+    ensures { slots.new ≡ link_last slots.old parent index }
 {
     let last = slot_at(slots, parent).last_child;
-    let linked = if last == NIL {
+    if last == NIL {
         change(
             slots,
             parent,
@@ -90,9 +76,9 @@ pub fn link_last(slots: [Slot; 128], parent: u32, index: u32) -> [Slot; 128]
                 first_child: index,
                 ..p
             },
-        )
+        );
     } else {
-        let after = change(
+        change(
             slots,
             last,
             |s| Slot {
@@ -101,32 +87,32 @@ pub fn link_last(slots: [Slot; 128], parent: u32, index: u32) -> [Slot; 128]
             },
         );
         change(
-            after,
+            slots,
             index,
             |s| Slot {
                 prev_sibling: last,
                 ..s
             },
-        )
-    };
+        );
+    }
     change(
-        linked,
+        slots,
         parent,
         |p| Slot {
             last_child: index,
             ..p
         },
-    )
+    );
 }
 
-// The slots with slot `index` out of its parent's children. Its own links stay.
-pub fn unlink(slots: [Slot; 128], index: u32) -> [Slot; 128]
-    ensures { result ≡ links.unlink slots index }
+// Slot `index` leaves its parent's children. Its own links stay.
+pub fn unlink(slots: &mut [Slot; 128], index: u32)
+    ensures { slots.new ≡ links.unlink slots.old index }
 {
     let s = slot_at(slots, index);
     let prev = s.prev_sibling;
     let next = s.next_sibling;
-    let before = if prev == NIL {
+    if prev == NIL {
         change(
             slots,
             s.parent,
@@ -134,7 +120,7 @@ pub fn unlink(slots: [Slot; 128], index: u32) -> [Slot; 128]
                 first_child: next,
                 ..p
             },
-        )
+        );
     } else {
         change(
             slots,
@@ -143,26 +129,26 @@ pub fn unlink(slots: [Slot; 128], index: u32) -> [Slot; 128]
                 next_sibling: next,
                 ..b
             },
-        )
-    };
+        );
+    }
     if next == NIL {
         change(
-            before,
+            slots,
             s.parent,
             |p| Slot {
                 last_child: prev,
                 ..p
             },
-        )
+        );
     } else {
         change(
-            before,
+            slots,
             next,
             |a| Slot {
                 prev_sibling: prev,
                 ..a
             },
-        )
+        );
     }
 }
 
@@ -175,7 +161,7 @@ fn list_freed(slots: &[Slot; 128], order: &mut Listed<128>, node: u32, depth: u3
         return;
     }
     order.push(node);
-    let mut child = read(slots, node).last_child;
+    let mut child = slot_at(slots, node).last_child;
     // As many steps as there are slots, so that links that lead round end the walk.
     // Kept: a walk along links, written out: it stops by its own test, and an iterator's items would have to be proved the chain's.
     for _ in 0..128u32 {
@@ -188,11 +174,11 @@ fn list_freed(slots: &[Slot; 128], order: &mut Listed<128>, node: u32, depth: u3
 }
 
 // The node and all below it in the order of freeing, as far as 128 go.
-pub fn freed_order(slots: [Slot; 128], node: u32) -> Listed<128>
-    ensures { (result.count ≤ 128) × (listed result ≡ walked slots node) }
+pub fn freed_order(slots: &[Slot; 128], node: u32) -> Listed<128>
+    ensures { (result.count ≤ 128) × (listed result ≡ walked slots.now node) }
 {
     let mut order = Listed::new();
-    list_freed(&slots, &mut order, node, 128);
+    list_freed(slots, &mut order, node, 128);
     order
 }
 
@@ -212,24 +198,15 @@ fn freed_slot(s: Slot, free: u32) -> Slot
     }
 }
 
-// Slot i freed, and now the head of the free chain.
-fn free_one(f: Freed, i: u32) -> Freed
-    ensures { (result.slots ≡ put f.slots i (idle (next_generation (at f.slots i).generation) f.free)) × (result.free ≡ i) }
+// The slots listed are freed one after another, each put before the free chain, which starts at `free`; the head of the chain then.
+pub fn free_listed(slots: &mut [Slot; 128], free: u32, o: &Listed<128>) -> u32
+    ensures { (slots.new ≡ freed slots.old free (listed o.now)) × (result ≡ final_or free (listed o.now)) }
 {
-    let gone = freed_slot(slot_at(f.slots, i), f.free);
-    Freed {
-        slots: with_slot(f.slots, i, gone),
-        free: i,
-    }
-}
-
-// The slots listed freed one after another, each put before the free chain, which starts at `free`.
-pub fn free_listed(slots: [Slot; 128], free: u32, o: Listed<128>) -> Freed
-    ensures { (result.slots ≡ freed slots free (listed o)) × (result.free ≡ final_or free (listed o)) }
-{
-    let mut out = Freed { slots, free };
+    let mut head = free;
     for i in o.as_slice() {
-        out = free_one(out, *i);
+        let gone = freed_slot(slot_at(slots, *i), head);
+        set_slot(slots, *i, gone);
+        head = *i;
     }
-    out
+    head
 }

@@ -6,7 +6,7 @@ ghost use Rattle.arena.specs.Support.Lists.{listed, added_all, once_by, Small, T
 ghost use Rattle.arena.specs.Rules.{node_well, free_well, each_once, root_well, linked};
 
 use crate::Slot;
-use crate::links::{NIL, read};
+use crate::links::{NIL, slot_at};
 use crate::listed::Listed;
 
 // What a walk along links listed, and whether the links that it went along are right.
@@ -21,7 +21,7 @@ pub struct Walked {
 fn list_children(slots: &[Slot; 128], node: u32, order: &mut Listed<128>) -> bool
     ensures { (order.new ≡ added_all order.old (kids_at slots.now node)) × (result ≡ node_well slots.now node) }
 {
-    let s = read(slots, node);
+    let s = slot_at(slots, node);
     let mut child = s.first_child;
     let mut prev = NIL;
     let mut well = true;
@@ -41,8 +41,8 @@ fn list_children(slots: &[Slot; 128], node: u32, order: &mut Listed<128>) -> boo
 
 // The slots reached from the root, parents before children, and whether the links of each to its children are right. The list is its
 // own queue: `at` is the place of the node whose children are passed.
-pub fn reach_root(slots: [Slot; 128]) -> Walked
-    ensures { (result.order.count ≤ 128) × Small result.order.items × (listed result.order ≡ order 128 slots (0 ∷ [])) × (result.well ≡ all (node_well slots) (order 128 slots (0 ∷ []))) }
+pub fn reach_root(slots: &[Slot; 128]) -> Walked
+    ensures { (result.order.count ≤ 128) × Small result.order.items × (listed result.order ≡ order 128 slots.now (0 ∷ [])) × (result.well ≡ all (node_well slots.now) (order 128 slots.now (0 ∷ []))) }
 {
     let mut order = Listed::new();
     order.push(0);
@@ -51,7 +51,7 @@ pub fn reach_root(slots: [Slot; 128]) -> Walked
     // Kept: the list grows while it is read, so that no iterator can hold it.
     while at < order.count {
         let node = order.items[at];
-        well = well & list_children(&slots, node, &mut order);
+        well = well & list_children(slots, node, &mut order);
         at += 1;
     }
     Walked { order, well }
@@ -99,15 +99,15 @@ fn once_well(s: Slot, reached: u32, free: u32) -> bool
     (reached == s.live as u32) & (total == 1)
 }
 
-// Whether that holds of every slot below the limit.
+// Whether that holds of every slot below the limit. It goes through them all: a loop that cannot stop early is compiled to wide comparisons.
 fn all_once(limit: u32, slots: &[Slot; 128], reached: &[u32; 128], free: &[u32; 128]) -> bool
     ensures { result ≡ all (λ x. once_by x.0 x.1.0 x.1.1) (take limit (zip slots.now (zip reached.now free.now))) }
 {
-    slots
-        .iter()
-        .zip(reached.iter().zip(free.iter()))
-        .take(limit as usize)
-        .all(|(s, (r, f))| once_well(*s, *r, *f))
+    let mut well = true;
+    for k in 0..(limit as usize).min(128) {
+        well = well & once_well(slots[k], reached[k], free[k]);
+    }
+    well
 }
 
 // Whether all listed are below the limit.
@@ -136,15 +136,17 @@ fn root_well(slots: &[Slot; 128]) -> bool
 }
 
 // Whether the links of a tree of this limit keep all link rules; one above 128 keeps none.
-pub fn links_well(limit: u32, slots: [Slot; 128], free: u32, live: u32) -> bool
-    ensures { result ≡ (nat_le limit 128 && linked limit slots free live) }
+// Not built into its caller, for what `tree::rules::broken` says.
+#[inline(never)]
+pub fn links_well(limit: u32, slots: &[Slot; 128], free: u32, live: u32) -> bool
+    ensures { result ≡ (nat_le limit 128 && linked limit slots.now free live) }
 {
     if 128 < limit {
         return false;
     }
     let reached = reach_root(slots);
-    let chain = free_chain(&slots, free);
-    let root = root_well(&slots);
-    let each = each_once(limit, &slots, &reached.order, &chain.order);
+    let chain = free_chain(slots, free);
+    let root = root_well(slots);
+    let each = each_once(limit, slots, &reached.order, &chain.order);
     root & (each & (reached.well & (chain.well & (live as usize == reached.order.count))))
 }

@@ -7,11 +7,11 @@ use lib.Seq.{drop-cons, take-suc, set_at, get_or_at, length-take-le, take-length
 use native.Mathlib.Numerals.{add-one}
 use native.Mathlib.Omega.{arith}
 
--- a list of zeros reads as 0 everywhere
-pub zero_read : (n k : ℕ) → ◌≡◌ {A = ℕ} (get_or (replicate n 0) k 0) 0
-zero_read zero k = refl
-zero_read (suc n) zero = refl
-zero_read (suc n) (suc k) = zero_read n k
+-- a list of one thing reads as it everywhere
+pub read_alike : {A : Type 0} (n k : ℕ) (d : A) → get_or (replicate n d) k d ≡ d
+read_alike zero k d = refl
+read_alike (suc n) zero d = refl
+read_alike (suc n) (suc k) d = read_alike n k d
 
 -- the front of a list without its own front
 pub drop_taken : (m n : ℕ) (l : List ℕ) → drop m (take n l) ≡ take (n - m) (drop m l)

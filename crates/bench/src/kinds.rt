@@ -26,6 +26,9 @@ pub(crate) enum Kind {
     Measure,
     NarrowLines,
     WideLines,
+    // The floor of a call by value.
+    Check,
+    Copies,
 }
 
 // A number that no kind has.
@@ -62,6 +65,8 @@ impl TryFrom<u32> for Kind {
             22 => Ok(Kind::Measure),
             23 => Ok(Kind::NarrowLines),
             24 => Ok(Kind::WideLines),
+            25 => Ok(Kind::Check),
+            26 => Ok(Kind::Copies),
             _ => Err(UnknownKind),
         }
     }

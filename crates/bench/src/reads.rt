@@ -1,4 +1,4 @@
-// The kinds of call that read, each on two nodes in turn: the leaf in focus and the root.
+// The kinds of call that read, each on two nodes in turn: the leaf in focus and the root; and the check that each makes.
 use crate::kinds::Kind;
 use crate::mix;
 use crate::mix::{mix, natural, neighbour, refused};
@@ -7,7 +7,7 @@ use arithmetic::fold::StateHash;
 use field::NodeId;
 use std::array;
 use text::lines;
-use tree::Ui;
+use tree::{Ui, rules};
 
 // n turns, in each of which a call on one of the two nodes is mixed into what the last one left.
 // Kept: `n` and `acc` apart: each call of the benchmark has other trees and nodes beside them, and C passes `n` alone.
@@ -82,6 +82,12 @@ pub(crate) fn read(u: &Ui, shape: Shape, kind: Kind, n: u32, acc: u64) -> u64 {
         Kind::Measure => measure(n, acc),
         Kind::NarrowLines => break_lines(120, n, acc),
         Kind::WideLines => break_lines(400, n, acc),
+        Kind::Check => turns(
+            shape,
+            n,
+            acc,
+            |acc, _| mix(acc, u64::from(rules::broken(u))),
+        ),
         _ => acc,
     }
 }

@@ -5,7 +5,7 @@ use crate::mix::{mix, neighbour, node, refused, verdict};
 use crate::shapes;
 use crate::shapes::{Shape, id};
 use desk::UiEvent;
-use field::EditOp;
+use field::{EditOp, NodeId};
 use text::refusal::Refusal;
 use tree::answers::Reply;
 use tree::{Ui, UiLimits};
@@ -40,12 +40,18 @@ fn new(n: u32, acc: u64) -> u64 {
     })
 }
 
+// A leaf inserted. Not built into its caller, which would keep the reply's tree for the removal and copy it once more.
+#[inline(never)]
+fn inserted(u: &mut Ui, parent: NodeId) -> Result<NodeId, Refusal> {
+    kept(u.insert(parent), u)
+}
+
 // A leaf inserted and removed: two calls a turn.
 fn insert_remove(u: &mut Ui, shape: Shape, n: u32, acc: u64) -> u64 {
     let parent = id(shape.parent(shape.count().min(127)));
     let mut all = acc;
     for _ in 0..n {
-        let given = kept(u.insert(parent), u);
+        let given = inserted(u, parent);
         all = mix(all, given.map_or_else(refused, node));
         if let Ok(d) = given {
             all = mix(all, verdict(kept(u.remove(d), u)));
@@ -112,6 +118,22 @@ fn output(u: &mut Ui, n: u32, acc: u64) -> u64 {
     all
 }
 
+// The tree, copied. Not built into its caller, which would see that the copy is the tree.
+#[inline(never)]
+fn copied(u: &Ui) -> Ui {
+    *u
+}
+
+// The tree copied out and back, as a call by value copies it: two copies a turn.
+fn copies(u: &mut Ui, n: u32, acc: u64) -> u64 {
+    let mut all = acc;
+    for _ in 0..n {
+        *u = copied(u);
+        all = mix(all, u64::from(u.live));
+    }
+    all
+}
+
 // n calls of a kind; a kind that is none of these makes none.
 pub(crate) fn run(u: &mut Ui, shape: Shape, kind: Kind, n: u32, acc: u64) -> u64 {
     match kind {
@@ -137,6 +159,7 @@ pub(crate) fn run(u: &mut Ui, shape: Shape, kind: Kind, n: u32, acc: u64) -> u64
         Kind::PressRelease => press_release(u, n, acc),
         Kind::Key => key(u, n, acc),
         Kind::Output => output(u, n, acc),
+        Kind::Copies => copies(u, n, acc),
         _ => acc,
     }
 }

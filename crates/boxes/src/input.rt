@@ -39,12 +39,12 @@ fn last_holding(slots: &[Slot; 128], layout: &[LayoutSlot; 128], pixel: Pixel, a
 }
 
 // From the root down, at most 128 times: to the last child whose box holds the pixel, until none does.
-fn descend(slots: [Slot; 128], layout: [LayoutSlot; 128], pixel: Pixel) -> u32
-    ensures { result ≡ hits.descend (hits.holds_at layout pixel) 128 slots 0 }
+fn descend(slots: &[Slot; 128], layout: &[LayoutSlot; 128], pixel: Pixel) -> u32
+    ensures { result ≡ hits.descend (hits.holds_at layout.now pixel) 128 slots.now 0 }
 {
     let mut at: u32 = 0;
     for _ in 0..128u32 {
-        let found = last_holding(&slots, &layout, pixel, at);
+        let found = last_holding(slots, layout, pixel, at);
         if found == at {
             return at;
         }
@@ -55,8 +55,8 @@ fn descend(slots: [Slot; 128], layout: [LayoutSlot; 128], pixel: Pixel) -> u32
 
 // The node under a pixel: none where the root's box does not hold it.
 // Kept: `slots` and `layout` apart: a struct of both would be built of two fields of a tree at each call, and its contract name both all the same.
-pub fn hit_test(slots: [Slot; 128], layout: [LayoutSlot; 128], pixel: Pixel) -> Option<NodeId>
-    ensures { result ≡ hits.hit_at slots layout pixel }
+pub fn hit_test(slots: &[Slot; 128], layout: &[LayoutSlot; 128], pixel: Pixel) -> Option<NodeId>
+    ensures { result ≡ hits.hit_at slots.now layout.now pixel }
 {
     let root = layout[0];
     if contains(root, pixel) {
@@ -69,11 +69,11 @@ pub fn hit_test(slots: [Slot; 128], layout: [LayoutSlot; 128], pixel: Pixel) -> 
 
 // The node under the pointer: none where the pointer is nowhere.
 pub fn under_pointer(
-    slots: [Slot; 128],
-    layout: [LayoutSlot; 128],
+    slots: &[Slot; 128],
+    layout: &[LayoutSlot; 128],
     pointer: Option<Pixel>,
 ) -> Option<NodeId>
-    ensures { result ≡ under_pointer None (λ pixel. hits.hit_at slots layout pixel) pointer }
+    ensures { result ≡ under_pointer None (λ pixel. hits.hit_at slots.now layout.now pixel) pointer }
 {
     match pointer {
         None => None,

@@ -1,6 +1,6 @@
 // Layout: what a node wants to be, and where it places its children.
 ghost use Rattle.arena.specs.Support.Lists.{Small};
-ghost use Rattle.std.specs.Prelude.{◌≡◌, ◌&&◌, List, ◌≤◌, ltb};
+ghost use Rattle.std.specs.Prelude.{◌≡◌, ◌&&◌, cond, List, not, ◌≤◌, ltb, pos};
 ghost use Rattle.std.specs.Int.Signed.{le_z, lt_z};
 ghost use Rattle.std.specs.List.{list_any};
 ghost use Rattle.arithmetic.specs.Scalar.{add_sat, sub_sat};
@@ -275,15 +275,22 @@ fn some_grow(grows: &[u32]) -> bool
     grows.iter().any(|g| *g > 0)
 }
 
-// Each child's share of the leftover, into shares that are 0; returns what growth leaves free.
-// No plan is made where nothing is left or nothing grows, since its arrays are copied.
+// A length where it counts, or 0.
+fn counted(counts: bool, length: i64) -> i64
+    ensures { result ≡ cond counts length (pos 0) }
+{
+    if counts { length } else { 0 }
+}
+
+// Each child's share of the leftover; returns whether the shares count: where nothing is left or nothing grows, none is planned, since a
+// plan's arrays are copied, and all is left free.
 // Kept: an array with a count, as `plan_growth` takes them.
-fn share_out(leftover: i64, grows: &[u32; 128], count: u32, shares: &mut [i64; 128]) -> i64
-    requires { (count ≤ 128) × (shares.old ≡ no_shares) }
-    ensures { SharedOut leftover grows.now count shares.new result }
+fn share_out(leftover: i64, grows: &[u32; 128], count: u32, shares: &mut [i64; 128]) -> bool
+    requires { count ≤ 128 }
+    ensures { SharedOut leftover grows.now count (cond result shares.new no_shares) (cond (not result) leftover (pos 0)) }
 {
     if leftover <= 0 {
-        return leftover;
+        return false;
     }
     let n = count as usize;
     let some = some_grow(&grows[..n]);
@@ -291,22 +298,20 @@ fn share_out(leftover: i64, grows: &[u32; 128], count: u32, shares: &mut [i64; 1
         let all = *grows;
         let planned = growth::plan_growth(leftover, all, n);
         *shares = planned;
-        return 0;
+        return true;
     }
-    leftover
+    false
 }
 
 // The slots of an order store what they want to be, the last first: children before parents.
-// One function with both loops, since a call for each slot would copy the arrays.
 // Kept: the inner loop follows sibling links; no slice holds the children, and it counts them, since the gaps between them go by their number.
-fn measure_all(slots: [Slot; 128], layout: [LayoutSlot; 128], ids: &[u32]) -> [LayoutSlot; 128]
+fn measure_all(slots: &[Slot; 128], layout: &mut [LayoutSlot; 128], ids: &[u32])
     requires { Small ids.now }
-    ensures { result ≡ laid.measure_all slots layout ids.now }
+    ensures { layout.new ≡ laid.measure_all slots.now layout.old ids.now }
 {
-    let mut out = layout;
     for id in ids.iter().rev() {
         let i = *id as usize;
-        let l = out[i];
+        let l = layout[i];
         let style = l.style;
         let d = style.direction;
         let mut sum = Lengths { main: 0, cross: 0 };
@@ -314,41 +319,40 @@ fn measure_all(slots: [Slot; 128], layout: [LayoutSlot; 128], ids: &[u32]) -> [L
         let mut n: u32 = 0;
         while (child < 128) & (n < 128) {
             let c = child as usize;
-            let o = out[c];
+            let o = layout[c];
             sum = with_child(sum, d, o);
             child = slots[c].next_sibling;
             n += 1;
         }
         let e = want(style, sum, n);
-        out[i] = with_wants(l, e);
+        layout[i] = with_wants(l, e);
     }
-    out
 }
 
 // The children of the slots of an order get their boxes: parents before children.
-// One function with its loops, since a call for each slot would copy the arrays.
 // Kept: the inner loops follow sibling links; no slice holds the children, and each has its grow and share at the place that it is counted to.
-fn arrange_all(slots: [Slot; 128], layout: [LayoutSlot; 128], ids: &[u32]) -> [LayoutSlot; 128]
+fn arrange_all(slots: &[Slot; 128], layout: &mut [LayoutSlot; 128], ids: &[u32])
     requires { Small ids.now }
-    ensures { result ≡ laid.arrange_all slots layout ids.now }
+    ensures { layout.new ≡ laid.arrange_all slots.now layout.old ids.now }
 {
-    let mut out = layout;
+    // Outside of the loop, since each parent writes the places that it reads, and to zero 1.5 KB for each takes time.
+    let mut grows = [0u32; 128];
+    let mut shares = [0i64; 128];
     for id in ids {
         let i = *id as usize;
         let first = slots[i].first_child;
         if first >= 128 {
             continue;
         }
-        let l = out[i];
+        let l = layout[i];
         let style = l.style;
         let d = style.direction;
-        let mut grows = [0u32; 128];
         let mut sum = Lengths { main: 0, cross: 0 };
         let mut child = first;
         let mut n: u32 = 0;
         while (child < 128) & (n < 128) {
             let c = child as usize;
-            let o = out[c];
+            let o = layout[c];
             let m = n as usize;
             grows[m] = o.style.grow;
             sum = with_child(sum, d, o);
@@ -358,40 +362,39 @@ fn arrange_all(slots: [Slot; 128], layout: [LayoutSlot; 128], ids: &[u32]) -> [L
         let content = content_box(style.padding, l.rect);
         let room = axes(d, content.width, content.height);
         let leftover = leftover_of(style, room, sum, n);
-        let mut shares = [0i64; 128];
-        let free = share_out(leftover, &grows, n, &mut shares);
+        let grow = share_out(leftover, &grows, n, &mut shares);
+        let free = counted(!grow, leftover);
         let mut at = run_start(style, room, free);
         let mut next = first;
         let mut passed: u32 = 0;
         while (next < 128) & (passed < 128) {
             let c = next as usize;
-            let o = out[c];
+            let o = layout[c];
             let m = passed as usize;
-            let growth = shares[m];
+            let growth = counted(grow, shares[m]);
             let b = child_box(style, content, at, growth, o);
-            out[c] = with_rect(o, b);
+            layout[c] = with_rect(o, b);
             at = past_child(style, at, growth, o);
             next = slots[c].next_sibling;
             passed += 1;
         }
     }
-    out
 }
 
 // A pass: the wanted sizes from the last of the order to the first, the viewport for the root, then the boxes.
-pub fn solve(slots: [Slot; 128], layout: [LayoutSlot; 128], view: Viewport) -> [LayoutSlot; 128]
-    ensures { result ≡ laid.passed slots layout view }
+pub fn solve(slots: &[Slot; 128], layout: &mut [LayoutSlot; 128], view: Viewport)
+    ensures { layout.new ≡ laid.passed slots.now layout.old view }
 {
     let order = reach_root(slots).order;
     let ids = order.as_slice();
-    let mut out = measure_all(slots, layout, ids);
-    let root = out[0];
+    measure_all(slots, layout, ids);
+    let root = layout[0];
     let rect = Rect {
         x: 0,
         y: 0,
         width: view.width,
         height: view.height,
     };
-    out[0] = with_rect(root, rect);
-    arrange_all(slots, out, ids)
+    layout[0] = with_rect(root, rect);
+    arrange_all(slots, layout, ids);
 }

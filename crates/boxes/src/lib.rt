@@ -1,4 +1,4 @@
-// What gives nodes their boxes: styles, states and patches, the pass, and the node under a pixel; and events. All over arrays by value:
+// What gives nodes their boxes: styles, states and patches, the pass, and the node under a pixel; and events. All over arrays that are lent:
 // no function here takes the whole tree.
 #![tactic(auto)]
 
@@ -46,16 +46,16 @@ pub struct Edges {
     pub bottom: i64,
 }
 
-// All that layout knows of a node, and its background.
+// All that layout knows of a node, and its background. In this order the fields leave no gap between them.
 #[derive(Clone, Copy, Debug, PartialEq, Eq)]
 pub struct Style {
-    pub direction: Direction,
     pub width: Size,
     pub height: Size,
     pub margin: Edges,
     pub padding: Edges,
     pub gap: i64,
     pub grow: u32,
+    pub direction: Direction,
     pub justify: Align,
     pub align_cross: Align,
     pub background: [u8; 4],
@@ -99,13 +99,13 @@ pub struct LayoutSlot {
     pub wanted_height: i64,
 }
 
-// A slot's patch numbers by state bits, its base style, the patch worn and the bits it is worn for.
+// A slot's patch numbers by state bits, the patch worn and the bits it is worn for, which the check reads, and behind them its base style.
 #[derive(Clone, Copy, Debug, PartialEq, Eq)]
 pub struct StateSlot {
     pub table: [u16; 16],
-    pub base: Style,
     pub applied: u16,
     pub bits: u8,
+    pub base: Style,
 }
 
 // A style to be worn, and whether wearing it moves boxes.

@@ -25,24 +25,22 @@ pub fn taken(s: Slot, parent: u32) -> Slot
     }
 }
 
-// The listed slots' states as new.
-pub fn reset_states(states: [StateSlot; 128], o: Listed<128>) -> [StateSlot; 128]
-    ensures { result ≡ reset_states states (listed o) }
+// The listed slots' states are as new from now on.
+pub fn reset_states(states: &mut [StateSlot; 128], o: &Listed<128>)
+    ensures { states.new ≡ reset_states states.old (listed o.now) }
 {
     let fresh = start::fresh_state();
-    let mut out = states;
     for i in o.as_slice() {
         if *i < 128 {
-            out[*i as usize] = fresh;
+            states[*i as usize] = fresh;
         }
     }
-    out
 }
 
 // The box of slot i.
 #[tactic(auto, unfolding(crate::specs::Styles::layout_at))]
-pub fn rect_at(layout: [LayoutSlot; 128], i: u32) -> Rect
-    ensures { result ≡ (layout_at layout i).rect }
+pub fn rect_at(layout: &[LayoutSlot; 128], i: u32) -> Rect
+    ensures { result ≡ (layout_at layout.now i).rect }
 {
     match layout.get(i as usize) {
         Some(l) => l.rect,

@@ -56,20 +56,21 @@ pub fn entry_of(table: [u16; 16], bits: u8) -> u16
     table[(bits % 16) as usize]
 }
 
-// Whether a table entry is the base style's or in the pool.
+// Whether a table entry is the base style's or in the pool: the next number, which is 0 after the base style's, is at most the count. All
+// in 16 bits, so that a table's entries are compared eight at a time.
 #[tactic(auto, unfolding(crate::specs::States::in_pool, arithmetic::specs::Tests::same))]
 pub fn in_pool(count: u32, k: u16) -> bool
     ensures { result ≡ in_pool count k }
 {
-    (k == NO_PATCH) | ((k as u32) < count)
+    k.wrapping_add(1) <= count.min(65535) as u16
 }
 
 // Whether all entries of a table are. It goes through them all: a loop that cannot stop early is compiled to a few wide comparisons.
-pub fn table_in_pool(count: u32, table: [u16; 16]) -> bool
-    ensures { result ≡ all (in_pool count) table }
+pub fn table_in_pool(count: u32, table: &[u16; 16]) -> bool
+    ensures { result ≡ all (in_pool count) table.now }
 {
     let mut all = true;
-    for k in &table {
+    for k in table {
         all = all & in_pool(count, *k);
     }
     all
@@ -105,23 +106,25 @@ pub fn touches(pool: &[StatePatch], k: u16) -> bool
 }
 
 // Whether a slot's worn and table numbers are the base style's or in the pool, and its bits at most 7.
-pub fn state_well(count: u32, s: StateSlot) -> bool
-    ensures { result ≡ state_well count s }
+pub fn state_well(count: u32, s: &StateSlot) -> bool
+    ensures { result ≡ state_well count s.now }
 {
     let worn = in_pool(count, s.applied);
-    let entries = table_in_pool(count, s.table);
+    let entries = table_in_pool(count, &s.table);
     worn & (entries & (s.bits <= 7))
 }
 
 // Whether those below the limit are all so.
 // Kept: an array and a limit, since it answers of a limit above the array too, which no slice of it has.
-pub fn states_well(count: u32, limit: u32, states: [StateSlot; 128]) -> bool
-    ensures { result ≡ all (state_well count) (take limit states) }
+// Not built into its caller, for what `tree::rules::broken` says.
+#[inline(never)]
+pub fn states_well(count: u32, limit: u32, states: &[StateSlot; 128]) -> bool
+    ensures { result ≡ all (state_well count) (take limit states.now) }
 {
     states
         .iter()
         .take(limit as usize)
-        .all(|s| state_well(count, *s))
+        .all(|s| state_well(count, s))
 }
 
 // Whether at most 3 slots are stated, each once and below the limit.

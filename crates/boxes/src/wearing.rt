@@ -32,36 +32,42 @@ pub fn bits_in(s: Slot, i: u32, marks: Marks) -> u8
     state::bits_of(marks.hover == id, marks.pressed == id, marks.focus == id)
 }
 
-// The state slot that wears a patch for the bits.
-pub fn worn(s: StateSlot, patch: u16, bits: u8) -> StateSlot
-    ensures { result ≡ wearing s patch bits }
+// The state slot wears a patch for the bits. Slots are lent, here and below: a whole one is costly to pass on.
+pub fn wear_patch(s: &mut StateSlot, patch: u16, bits: u8)
+    ensures { s.new ≡ wearing s.old patch bits }
 {
-    StateSlot {
-        applied: patch,
-        bits,
-        ..s
-    }
+    s.applied = patch;
+    s.bits = bits;
 }
 
-// The layout slot with another style.
-pub fn styled(l: LayoutSlot, style: Style) -> LayoutSlot
-    ensures { result ≡ with_style l style }
+// The layout slot has another style.
+pub fn put_style(l: &mut LayoutSlot, style: Style)
+    ensures { l.new ≡ with_style l.old style }
 {
-    LayoutSlot { style, ..l }
+    l.style = style;
 }
 
-// The state slot with another base style.
-pub fn based(s: StateSlot, style: Style) -> StateSlot
-    ensures { result ≡ states.based s style }
+// The state slot has another base style.
+pub fn put_base(s: &mut StateSlot, style: Style)
+    ensures { s.new ≡ states.based s.old style }
 {
-    StateSlot { base: style, ..s }
+    s.base = style;
 }
 
-// The state slot with another table.
-pub fn tabled(s: StateSlot, table: [u16; 16]) -> StateSlot
-    ensures { result ≡ states.tabled s table }
+// The state slot has another table.
+pub fn put_table(s: &mut StateSlot, table: [u16; 16])
+    ensures { s.new ≡ states.tabled s.old table }
 {
-    StateSlot { table, ..s }
+    s.table = table;
+}
+
+// The state slot loses table, bits and patch.
+pub fn strip(s: &mut StateSlot)
+    ensures { s.new ≡ bare_state s.old.base }
+{
+    s.table = [NO_PATCH; 16];
+    s.applied = NO_PATCH;
+    s.bits = 0;
 }
 
 // A state slot without table, bits or patch.
@@ -77,8 +83,8 @@ pub fn bare(base: Style) -> StateSlot
 }
 
 // One more in turn: the slot of an id that is live.
-fn turn_live(turns: &mut Listed<6>, limit: u32, slots: [Slot; 128], id: Option<NodeId>)
-    ensures { turns.new ≡ added_all turns.old (live_slot limit slots id) }
+fn turn_live(turns: &mut Listed<6>, limit: u32, slots: &[Slot; 128], id: Option<NodeId>)
+    ensures { turns.new ≡ added_all turns.old (live_slot limit slots.now id) }
 {
     if let Some(d) = id {
         if links::is_live(limit, slots, d) {
@@ -91,12 +97,12 @@ fn turn_live(turns: &mut Listed<6>, limit: u32, slots: [Slot; 128], id: Option<N
 // Kept: an array and a count, since it answers of a count above the array too, which no slice of it has.
 pub fn in_turn(
     limit: u32,
-    slots: [Slot; 128],
+    slots: &[Slot; 128],
     stated: [u32; 3],
     count: u32,
     marks: Marks,
 ) -> Listed<6>
-    ensures { (result.count ≤ 6) × (listed result ≡ backwards (take count stated) ++ (live_slot limit slots marks.hover ++ live_slot limit slots marks.pressed ++ live_slot limit slots marks.focus)) }
+    ensures { (result.count ≤ 6) × (listed result ≡ backwards (take count stated) ++ (live_slot limit slots.now marks.hover ++ live_slot limit slots.now marks.pressed ++ live_slot limit slots.now marks.focus)) }
 {
     let mut turns = Listed::new();
     for i in stated[..(count as usize).min(3)].iter().rev() {
@@ -119,8 +125,14 @@ fn keep(kept: &mut Listed<3>, asked: bool, i: u32)
 }
 
 // The slot of an id that is live is kept, where it has bits.
-fn keep_live(kept: &mut Listed<3>, limit: u32, slots: [Slot; 128], marks: Marks, id: Option<NodeId>)
-    ensures { kept.new ≡ kept_live (bits_by slots marks.hover marks.pressed marks.focus) kept.old (live_slot limit slots id) }
+fn keep_live(
+    kept: &mut Listed<3>,
+    limit: u32,
+    slots: &[Slot; 128],
+    marks: Marks,
+    id: Option<NodeId>,
+)
+    ensures { kept.new ≡ kept_live (bits_by slots.now marks.hover marks.pressed marks.focus) kept.old (live_slot limit slots.now id) }
 {
     if let Some(d) = id {
         if links::is_live(limit, slots, d) {
@@ -132,8 +144,8 @@ fn keep_live(kept: &mut Listed<3>, limit: u32, slots: [Slot; 128], marks: Marks,
 }
 
 // Those of the nodes hovered, pressed and in focus that have bits are to be stated. Places past the count keep what they held.
-pub fn restated(limit: u32, slots: [Slot; 128], stated: [u32; 3], marks: Marks) -> Listed<3>
-    ensures { result ≡ kept_as (bearing (bits_by slots marks.hover marks.pressed marks.focus) [] (live_slot limit slots marks.hover ++ live_slot limit slots marks.pressed ++ live_slot limit slots marks.focus)) stated }
+pub fn restated(limit: u32, slots: &[Slot; 128], stated: [u32; 3], marks: Marks) -> Listed<3>
+    ensures { result ≡ kept_as (bearing (bits_by slots.now marks.hover marks.pressed marks.focus) [] (live_slot limit slots.now marks.hover ++ live_slot limit slots.now marks.pressed ++ live_slot limit slots.now marks.focus)) stated }
 {
     let mut kept = Listed {
         items: stated,

@@ -1,4 +1,4 @@
-// What a call of the tree or the desk does, and what it writes. A tree is 60 KB, so that few are held at once.
+// What a call of the tree or the desk does, and what it writes. A tree is 57 KB, so that few are held at once.
 use crate::calls::{Change, Reading};
 use crate::shown::{Marked, Node, Place, Sum, Typed};
 use crate::{digest, waiting};

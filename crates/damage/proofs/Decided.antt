@@ -75,13 +75,13 @@ same_rect a b =
 pub same_style : (a b : Style) → Decides (style.eq-value.it a b) (a ≡ b)
 same_style a b =
     let d =
-    Decides-and _ _ (same_direction a.direction b.direction) (
     Decides-and _ _ (same_size a.width b.width) (
     Decides-and _ _ (same_size a.height b.height) (
     Decides-and _ _ (same_edges a.margin b.margin) (
     Decides-and _ _ (same_edges a.padding b.padding) (
     Decides-and _ _ (Decides-int_eq a.gap b.gap) (
     Decides-and _ _ (Decides-eqb a.grow b.grow) (
+    Decides-and _ _ (same_direction a.direction b.direction) (
     Decides-and _ _ (same_align a.justify b.justify) (
     Decides-and _ _ (same_align a.align_cross b.align_cross) (
     bytes_decides a.background b.background))))))))) in
@@ -100,9 +100,9 @@ pub same_state : (a b : StateSlot) → Decides (state.eq-value.it a b) (a ≡ b)
 same_state a b =
     let d =
     Decides-and _ _ (bytes_decides a.table b.table) (
-    Decides-and _ _ (same_style a.base b.base) (
     Decides-and _ _ (Decides-eqb a.applied b.applied) (
-    Decides-eqb a.bits b.bits))) in
+    Decides-and _ _ (Decides-eqb a.bits b.bits) (
+    same_style a.base b.base))) in
     search (rules, d)
 
 pub same_patch : (a b : StatePatch) → Decides (patch.eq-value.it a b) (a ≡ b)

@@ -90,12 +90,12 @@ fn has_changed(f: Field, g: Field) -> bool
 fn edit_field(u: &mut Ui, d: NodeId, key: Key)
     ensures { u.new ≡ events.edit_field u.old d key (field_of d u.old.fields) }
 {
-    let Some(i) = fields::field_place(u.fields, d) else {
+    let Some(i) = fields::field_place(&u.fields, d) else {
         return
     };
-    let f = fields::field_at(u.fields, i);
+    let f = fields::field_at(&u.fields, i);
     let g = keyed_field(f, key);
-    u.fields = fields::with_field(u.fields, i, g);
+    fields::set_field(&mut u.fields, i, g);
     if has_changed(f, g) {
         u.interaction.edit_fold = fold::edit_fold(u.interaction.edit_fold, d, key);
     }
@@ -106,7 +106,7 @@ fn edit_focused(u: &mut Ui, key: Key)
     ensures { u.new ≡ edit_focused u.old key u.old.interaction.focus }
 {
     match u.interaction.focus {
-        Some(d) if links::is_live(u.limits.nodes, u.slots, d) => edit_field(u, d, key),
+        Some(d) if links::is_live(u.limits.nodes, &u.slots, d) => edit_field(u, d, key),
         _ => {}
     }
 }

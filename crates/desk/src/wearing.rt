@@ -17,10 +17,10 @@ pub(crate) fn refresh_states(u: &mut Ui, hover: Option<NodeId>)
         pressed: u.interaction.pressed,
         focus: u.interaction.focus,
     };
-    let Listed { items, count } = restated(u.limits.nodes, u.slots, u.stated, marks);
-    let turns = in_turn(u.limits.nodes, u.slots, u.stated, u.stated_count, marks);
+    let Listed { items, count } = restated(u.limits.nodes, &u.slots, u.stated, marks);
+    let turns = in_turn(u.limits.nodes, &u.slots, u.stated, u.stated_count, marks);
     for i in turns.as_slice() {
-        let bits = bits_in(links::slot_at(u.slots, *i), *i, marks);
+        let bits = bits_in(links::slot_at(&u.slots, *i), *i, marks);
         wear(u, *i, bits);
     }
     u.stated = items;

@@ -7,7 +7,7 @@ ghost use Rattle.tree.specs.Calls.{insert_at, with_freed};
 
 use crate::{Slot, Ui};
 use arena::links;
-use arena::links::{Freed, NIL};
+use arena::links::NIL;
 use boxes::{nodes, start};
 use field::NodeId;
 
@@ -19,9 +19,9 @@ pub(crate) fn insert_at(u: &mut Ui, parent: u32)
 {
     let index = u.free;
     let k = index as usize;
-    let s = links::slot_at(u.slots, index);
-    let placed = links::with_slot(u.slots, index, nodes::taken(s, parent));
-    u.slots = links::link_last(placed, parent, index);
+    let s = links::slot_at(&u.slots, index);
+    links::set_slot(&mut u.slots, index, nodes::taken(s, parent));
+    links::link_last(&mut u.slots, parent, index);
     u.layout[k] = start::fresh_layout();
     u.states[k] = start::fresh_state();
     u.free = s.next_sibling;
@@ -34,20 +34,18 @@ pub(crate) fn insert_at(u: &mut Ui, parent: u32)
 pub(crate) fn remove_at(u: &mut Ui, index: u32)
     ensures { u.new ≡ with_freed u.old (unlink u.old.slots index) (walked (unlink u.old.slots index) index) }
 {
-    let rest = links::unlink(u.slots, index);
-    let order = links::freed_order(rest, index);
-    let Freed { slots, free } = links::free_listed(rest, u.free, order);
-    u.slots = slots;
-    u.states = nodes::reset_states(u.states, order);
-    u.free = free;
+    links::unlink(&mut u.slots, index);
+    let order = links::freed_order(&u.slots, index);
+    u.free = links::free_listed(&mut u.slots, u.free, &order);
+    nodes::reset_states(&mut u.states, &order);
     u.live = u.live.saturating_sub(order.count as u32);
     u.dirty = true;
 }
 
 // The node that a link leads to.
 #[tactic(auto, unfolding(arithmetic::specs::Tests::same))]
-pub(crate) fn neighbour(slots: [Slot; 128], i: u32) -> Option<NodeId>
-    ensures { result ≡ cond (same i NIL) None (Some (id_at slots i)) }
+pub(crate) fn neighbour(slots: &[Slot; 128], i: u32) -> Option<NodeId>
+    ensures { result ≡ cond (same i NIL) None (Some (id_at slots.now i)) }
 {
     if i == NIL {
         return None;

@@ -63,7 +63,13 @@ pub fn new_tree(kind: StartKind, n: u32) -> Changed
 {
     let pointer = start::first_pointer(kind);
     if 128 < n {
-        return Reply::refused(fresh(pointer, 1), Refusal::Large);
+        return Reply {
+            tree: fresh(pointer, 1),
+            answer: Err(Refusal::Large),
+        };
     }
-    Reply::accepted(fresh(pointer, n.max(1)), ())
+    Reply {
+        tree: fresh(pointer, n.max(1)),
+        answer: Ok(()),
+    }
 }

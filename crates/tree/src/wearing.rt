@@ -10,7 +10,7 @@ ghost use Rattle.tree.specs.Trees.{limit_of, pool_of};
 use crate::{StatePatch, Style, Ui};
 use boxes::state;
 use boxes::state::NO_PATCH;
-use boxes::wearing::{bare, based, styled, tabled, worn};
+use boxes::wearing::{put_base, put_style, put_table, strip, wear_patch};
 
 // Slot i wears what its table has for the bits. Past the slots nothing is stored: what is read there wears patch 0.
 #[tactic(auto, unfolding(crate::specs::Trees::with_styles, crate::specs::Wearing::with_appearance, boxes::specs::States::wear, boxes::specs::Styles::layout_at, boxes::specs::Styles::state_at, arithmetic::specs::Tests::same))]
@@ -23,17 +23,16 @@ pub fn wear(u: &mut Ui, i: u32, bits: u8)
         return;
     }
     let k = i as usize;
-    let s = u.states[k];
-    let next = state::entry_of(s.table, bits);
-    u.states[k] = worn(s, next, bits);
-    if next == s.applied {
+    let before = u.states[k].applied;
+    let next = state::entry_of(u.states[k].table, bits);
+    wear_patch(&mut u.states[k], next, bits);
+    if next == before {
         return;
     }
-    let l = u.layout[k];
     let pool = state::pool(&u.patches, u.patch_count);
-    let style = state::patch_style(pool, next, s.base);
-    let moved = state::touches(pool, s.applied) | state::touches(pool, next);
-    u.layout[k] = styled(l, style);
+    let style = state::patch_style(pool, next, u.states[k].base);
+    let moved = state::touches(pool, before) | state::touches(pool, next);
+    put_style(&mut u.layout[k], style);
     u.dirty |= moved;
 }
 
@@ -44,11 +43,10 @@ pub(crate) fn style_at(u: &mut Ui, i: u32, style: Style)
     ensures { u.new ≡ styled_at u.old i style }
 {
     let k = i as usize;
-    let s = u.states[k];
-    u.states[k] = based(s, style);
+    put_base(&mut u.states[k], style);
     u.dirty = true;
-    if s.applied == NO_PATCH {
-        u.layout[k] = styled(u.layout[k], style);
+    if u.states[k].applied == NO_PATCH {
+        put_style(&mut u.layout[k], style);
     }
 }
 
@@ -59,23 +57,22 @@ pub(crate) fn table_at(u: &mut Ui, i: u32, table: [u16; 16])
     ensures { u.new ≡ tabled_at u.old i table }
 {
     let k = i as usize;
-    let s = u.states[k];
-    u.states[k] = tabled(s, table);
-    wear(u, i, s.bits);
+    put_table(&mut u.states[k], table);
+    wear(u, i, u.states[k].bits);
 }
 
 // Every slot below the limit loses table, bits and patch.
-#[tactic(auto, using(crate::proofs::Wearings::bare_start, crate::proofs::Wearings::bare_more, crate::proofs::Wearings::bare_done, crate::proofs::Wearings::bared_as_it_is, crate::proofs::Wearings::bared_anew), unfolding(crate::specs::Trees::with_styles, boxes::specs::Styles::layout_at, boxes::specs::Styles::state_at, arithmetic::specs::Tests::same))]
+#[tactic(auto, using(crate::proofs::Wearings::bare_start))]
 fn bare_all(u: &mut Ui)
     requires { limit_of u.old ≤ 128 }
     ensures { u.new ≡ with_appearance u.old (bare_all (appearance_of u.old) (from_to 0 (limit_of u.old))) }
 {
     // Kept: an index, since two arrays are written at one place, and nothing is known of what a `zip` of two `iter_mut` wrote.
     for k in 0..u.limits.nodes as usize {
-        let s = u.states[k];
-        u.states[k] = bare(s.base);
-        if s.applied != NO_PATCH {
-            u.layout[k] = styled(u.layout[k], s.base);
+        let worn = u.states[k].applied;
+        strip(&mut u.states[k]);
+        if worn != NO_PATCH {
+            put_style(&mut u.layout[k], u.states[k].base);
             u.dirty = true;
         }
     }
@@ -83,12 +80,12 @@ fn bare_all(u: &mut Ui)
 
 // The pool is the first `count` of the patches; every slot below the limit loses table, bits and patch.
 #[tactic(auto, unfolding(crate::specs::Calls::pooled, crate::specs::Trees::with_styles, crate::specs::Trees::with_pool, crate::specs::Wearing::with_appearance))]
-pub(crate) fn set_pool(u: &mut Ui, patches: [StatePatch; 64], count: u32)
+pub(crate) fn set_pool(u: &mut Ui, patches: &[StatePatch; 64], count: u32)
     requires { limit_of u.old ≤ 128 }
-    ensures { u.new ≡ pooled u.old patches count }
+    ensures { u.new ≡ pooled u.old patches.now count }
 {
     bare_all(u);
-    u.patches = patches;
+    u.patches = *patches;
     u.patch_count = count;
     u.stated_count = 0;
 }

@@ -1,6 +1,9 @@
 -- Checks over a list by its index: what is left to check from here gives the whole. Assumes nothing.
-use Rattle.std.proofs.Common.{◌≡◌, ℕ, zero, suc, ◌+◌, ◌<◌, ◌≤◌, Bool, ◌&&◌, eqb, List, [], ◌∷◌, length, get_or, take, refl, ap, ◌∙◌, arith}
+use Rattle.std.proofs.Common.{◌≡◌, ℕ, zero, suc, min, sym, ◌+◌, ◌<◌, ◌≤◌, Bool, ◌&&◌, eqb, List, [], ◌∷◌, length, get_or, take, refl, ap, ◌∙◌, arith}
 use Rattle.std.specs.Prelude.{zip}
+use Rattle.std.proofs.lemmas.Slice.Zip.{get_or-zip, length-zip}
+use Rattle.std.proofs.lemmas.List.{take_min}
+use Rattle.std.proofs.lemmas.List.Folds.{list_all_more}
 use mathlib.Core.Bool.{and_assoc}
 use Rattle.arithmetic.specs.Tests.{same, head_or, from_to, all}
 use Rattle.arena.specs.Slots.{NIL, Slots, no_slot, at, chain, order}
@@ -29,6 +32,25 @@ unfolding at
 each_counted n s r f a b h j k m p q =
     side_by_side once_by (once s r f) n 0 s a b (omega arith) (omega arith) (omega arith)
     (λ i l. let u : i < 128 = omega arith in let v : 0 + i ≡ i = omega arith in rw (v, p i u, q i u))
+
+-- ---- the same test in a loop, slot after slot
+abbrev tested : Slot × (ℕ × ℕ) → Bool
+tested x = once_by x.0 x.1.0 x.1.1
+
+module _ (s : Slots) (a b : List ℕ) (h : length s ≡ 128) (j : length a ≡ 128) (m : length b ≡ 128) where
+  as_long : length (zip s (zip a b)) ≡ 128
+  as_long = omega (arith, length-zip s (zip a b), length-zip a b, h, j, m)
+
+  pub one_more_tested : (k : ℕ) {w e : Bool} → k < 128 → e ≡ once_by (get_or s k no_slot) (get_or a k 0) (get_or b k 0)
+      → w ≡ all (λ x. once_by x.0 x.1.0 x.1.1) (take k (zip s (zip a b))) → (w && e) ≡ all (λ x. once_by x.0 x.1.0 x.1.1) (take (k + 1) (zip s (zip a b)))
+  one_more_tested k {w} {e} n f g =
+      let there = get_or-zip s (zip a b) k (no_slot, (0, 0)) (omega (arith, h)) (omega (arith, length-zip a b, j, m)) in
+      let counts = get_or-zip a b k (0, 0) (omega (arith, j)) (omega (arith, m)) in
+      rw (g, f) (sym (list_all_more tested (zip s (zip a b)) k (no_slot, (0, 0)) (omega (arith, as_long))
+      ∙ ap (λ x. all tested (take k (zip s (zip a b))) && tested x) (there ∙ ap (λ (y : ℕ × ℕ). (get_or s k no_slot, y)) counts)))
+
+  pub all_tested : (n k : ℕ) → k ≡ min n 128 → take k (zip s (zip a b)) ≡ take n (zip s (zip a b))
+  all_tested n k e = ap (λ (i : ℕ). take i (zip s (zip a b))) (e ∙ ap (min n) (sym as_long)) ∙ take_min n (zip s (zip a b))
 
 -- ---- all link rules
 pub links_whole : (n : ℕ) (s : Slots) (head live : ℕ) {r f : List ℕ} {root each nodes chained : Bool} {c : ℕ}

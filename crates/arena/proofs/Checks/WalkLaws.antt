@@ -1,5 +1,5 @@
 -- The walks of the link check: what is left of a walk from here, and of what it checks, gives the whole. Assumes nothing.
-use Rattle.arithmetic.proofs.LoopLaws.{zero_read}
+use Rattle.arithmetic.proofs.LoopLaws.{read_alike}
 use Rattle.std.proofs.Common.{◌≡◌, ℕ, zero, suc, ◌+◌, ◌-◌, ◌<◌, ◌≤◌, Bool, true, false, ◌&&◌, List, [], ◌∷◌, ◌++◌, length, get_or, take, set, replicate, sym, refl, ap, ◌∙◌, arith, take_all, get_or-set_other, take-suc, get_or-set_same, take-take, le-ltb, lt-ltb}
 use mathlib.Core.Bool.{and_assoc, and-true}
 use lib.Seq.{take-append-le}
@@ -22,7 +22,7 @@ small_set l n c h q p i = eq_cases i n
     (λ e _ _. let v : get_or (set l n c) i 0 ≡ get_or l i 0 = get_or-set_other l n i c 0 e in omega (arith, v, p i))
 
 pub small_none : Small (replicate 128 0)
-small_none i = omega (arith, zero_read 128 i)
+small_none i = omega (arith, read_alike {A = ℕ} 128 i 0)
 
 small_added : (o : Listed 128) (c : ℕ) → Bounded o → c < 128 → Small o.items → Small (added o c).items
 unfolding added
@@ -204,4 +204,4 @@ pub tallied_past : (times l : List ℕ) (x : ℕ) → 128 ≤ x → Tallied time
 tallied_past times l x h i j b = let t = occ_behind j x l in eq_cases x j (λ v _ d. absurd (omega (arith, v))) (λ v _ d. omega (arith, i j b, t, d))
 
 pub tallied_none : Tallied (replicate 128 0) []
-tallied_none j b = zero_read 128 j
+tallied_none j b = read_alike {A = ℕ} 128 j 0

@@ -20,7 +20,7 @@ use Rattle.boxes.specs.declared.layout.Lengths.{Lengths}
 use Rattle.boxes.specs.declared.Style.{Style}
 use Rattle.boxes.specs.declared.Rect.{Rect}
 use Rattle.arena.proofs.Forests.ChainLaws.{chain_none, chain_spent, chain_more}
-use Rattle.boxes.proofs.Layouts.Placing.{placed_none, placed_step, grow_of, no_grows}
+use Rattle.boxes.proofs.Layouts.Placing.{placed_none, placed_step, grow_of}
 use Rattle.arithmetic.proofs.TestLaws.{eq_cases}
 
 -- The walk's test: a child is there, and it is not the 129th.
@@ -77,14 +77,14 @@ pub measured : (s : Slots) (l : List LayoutSlot) (i : ℕ) (x : LayoutSlot) (e :
 unfolding measure_at
 measured s l i x e hx he = rw (hx, he)
 
--- The children passed are summed, and their grows stored.
-pub record Gathering (s : Slots) (l : List LayoutSlot) (d : Direction) (first : ℕ) (grows : List ℕ) (sum : Lengths) (child n : ℕ) : Type 0 where
+-- The children passed are summed, and their grows stored over those of before.
+pub record Gathering (s : Slots) (l : List LayoutSlot) (d : Direction) (first : ℕ) (before grows : List ℕ) (sum : Lengths) (child n : ℕ) : Type 0 where
   pub summing : Summing s l d first sum child n
-  pub fills : sets grows n (map grow_of (map (seen l) (chain (128 - n) s child))) ≡ sets no_grows 0 (map grow_of (map (seen l) (chain 128 s first)))
+  pub fills : sets grows n (map grow_of (map (seen l) (chain (128 - n) s child))) ≡ sets before 0 (map grow_of (map (seen l) (chain 128 s first)))
 
-module _ {s : Slots} {l : List LayoutSlot} {d : Direction} {first : ℕ} {grows : List ℕ} {sum : Lengths} {child n : ℕ} where
-  pub gathering_more : {next : Lengths} → Gathering s l d first grows sum child n → (ltb child 128 && ltb n 128) ≡ true
-      → axes_of next ≡ summed_with d (axes_of sum) (seen l child) → Gathering s l d first (set grows n (layout_at l child).style.grow) next (at s child).next_sibling (n + 1)
+module _ {s : Slots} {l : List LayoutSlot} {d : Direction} {first : ℕ} {before grows : List ℕ} {sum : Lengths} {child n : ℕ} where
+  pub gathering_more : {next : Lengths} → Gathering s l d first before grows sum child n → (ltb child 128 && ltb n 128) ≡ true
+      → axes_of next ≡ summed_with d (axes_of sum) (seen l child) → Gathering s l d first before (set grows n (layout_at l child).style.grow) next (at s child).next_sibling (n + 1)
   gathering_more w t e =
       let g = goes_on child n t in
       let more = one_more s child n g.0 g.1 in
@@ -96,7 +96,7 @@ module _ {s : Slots} {l : List LayoutSlot} {d : Direction} {first : ℕ} {grows 
             ∙ (rw more at w.fills);
       }
 
-  pub gathering_done : Gathering s l d first grows sum child n → (ltb child 128 && ltb n 128) ≡ false → grows ≡ sets no_grows 0 (map grow_of (map (seen l) (chain 128 s first)))
+  pub gathering_done : Gathering s l d first before grows sum child n → (ltb child 128 && ltb n 128) ≡ false → grows ≡ sets before 0 (map grow_of (map (seen l) (chain 128 s first)))
   gathering_done w t = rw (ended s child n t) at w.fills
 
 -- A box is not what a parent sees.

@@ -4,7 +4,7 @@ use mathlib.Core.List.{List, [], ◌∷◌}
 use Prim.Native.Nat.{ℕ, ◌+◌}
 use native.Mathlib.Omega.{arith}
 use lib.IntN.{ℤ, pos}
-use lib.ListN.{get_or, drop, set, replicate}
+use lib.ListN.{get_or, drop, set}
 use lib.Seq.{get_or-drop, drop-drop}
 use Rattle.boxes.specs.Styles.{layout_at}
 use Rattle.boxes.specs.Layout.{Child, boxes, set_rects, with_rect}
@@ -15,9 +15,6 @@ use Rattle.boxes.specs.declared.LayoutSlot.{LayoutSlot}
 
 abbrev pub grow_of : Child → ℕ
 grow_of c = c.style.grow
-
-unfoldable pub no_grows : List ℕ
-no_grows = replicate 128 0
 
 pub boxes_more : (s : Style) (cx cy inner cursor : ℤ) (shares : List ℤ) (c : Child) (cs : List Child) → boxes s cx cy inner cursor shares (c ∷ cs) ≡ box_at s cx cy inner cursor (get_or shares 0 (pos 0)) c ∷ boxes s cx cy inner (past_of s cursor (get_or shares 0 (pos 0)) c) (drop 1 shares) cs
 unfolding boxes box_at past_of

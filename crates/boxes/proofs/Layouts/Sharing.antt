@@ -1,6 +1,7 @@
--- The shares that the code asks for are the definition's: zeros behind the grows change no share, no share past the
+-- The shares that the code asks for are the definition's: what stands behind the grows changes no share, no share past the
 -- children is read, and where one grows the shares sum to the leftover. Assumes nothing.
-use Rattle.arithmetic.proofs.LoopLaws.{zero_read}
+use Rattle.arithmetic.proofs.LoopLaws.{read_alike}
+use Rattle.arithmetic.proofs.Sums.{equal_summands_equal_sums}
 use mathlib.Core.Path.{◌≡◌, refl, sym, ap, ◌∙◌, fun_ext}
 use mathlib.Core.Bool.{Bool, true, false, ◌||◌, cond}
 use Rattle.std.specs.List.{list_any}
@@ -10,46 +11,82 @@ use Prim.Native.Nat.{ℕ, zero, suc, ◌+◌, ◌-◌, ◌*◌, ◌/◌, ◌%◌
 use native.Mathlib.Omega.{arith}
 use lib.Dec.{ltb}
 use lib.IntN.{ℤ, pos, negsuc, ◌+ℤ◌, +ℤ_idr, +ℤ_invr}
-use lib.ListN.{get_or, drop, take, length, length-map, replicate, length-replicate}
+use lib.ListN.{get_or, drop, take, length, length-map, replicate}
 use lib.Signed.{mag, le_z}
-use lib.Seq.{sets, sets-eq, get_or-drop}
+use lib.Seq.{sets, sets-eq}
 use Rattle.arithmetic.specs.Scalar.{stop, add_sat, sub_sat}
 use Rattle.arithmetic.specs.Growth.{sum_to, total, table, comes_before, rank, grow_sum, whole_share, remainder, missing, share_with_unit, share, plan_growth}
 use Rattle.arithmetic.proofs.Signed.{stop_keeps_what_fits}
 use Rattle.arithmetic.proofs.GrowthPlans.{plan_of_no_leftover, plan_of_no_grow}
-use borrow.Author.Tests.{ltb-true, ltb-false, leb-false, lt-ltb}
+use borrow.Author.Tests.{ltb-true, ltb-false, leb-false, lt-ltb, le-ltb}
+use native.Mathlib.Decide.{dec_lt}
 use Rattle.arithmetic.proofs.Fair.{fair_shares}
 use Rattle.boxes.specs.Layout.{Child, boxes, place, content, offset}
 use Rattle.boxes.specs.Support.Views.{no_shares, inner_of, box_at, past_of}
-use Rattle.boxes.proofs.Layouts.Placing.{boxes_more, grow_of, no_grows}
+use Rattle.boxes.proofs.Layouts.Placing.{boxes_more, grow_of}
 use Rattle.boxes.specs.declared.Rect.{Rect}
 use Rattle.boxes.specs.declared.Style.{Style}
 
--- ---- zeros behind the grows
+-- ---- what stands behind the grows
+
+-- one share, by the sum of the grows, its own grow, how many come before it, and what is given in whole shares
+one_share : (l s n k x before given : ℕ) → ℕ
+one_share l s n k x before given = cond (ltb 0 l) (cond (ltb 0 s) (cond (ltb k n) (l * x / s + cond (ltb before (l - given)) 1 0) 0) 0) 0
+
+no_share : (l s n k x y p q g h : ℕ) → ltb k n ≡ false → one_share l s n k x p g ≡ one_share l s n k y q h
+unfolding one_share
+no_share l s n k x y p q g h e = rw e refl
+
+ahead : (l s n k x : ℕ) → (ℕ → ℕ) → ℕ
+ahead l s n k x f = sum_to (λ j. comes_before (l * x % s) k (l * f j % s) j) n
+
+in_whole : (l s n : ℕ) → (ℕ → ℕ) → ℕ
+in_whole l s n f = sum_to (λ j. l * f j / s) n
 
 share_by : ℕ → (ℕ → ℕ) → ℕ → ℕ → ℕ
-share_by l f n k =
-    cond (ltb 0 l) (cond (ltb 0 (sum_to f n)) (cond (ltb k n) (l * f k / sum_to f n + cond (ltb (sum_to (λ j. comes_before (l * f k % sum_to f n) k (l * f j % sum_to f n) j) n) (l - sum_to (λ j. l * f j / sum_to f n) n)) 1 0) 0) 0) 0
+share_by l f n k = one_share l (sum_to f n) n k (f k) (ahead l (sum_to f n) n k (f k) f) (in_whole l (sum_to f n) n f)
 
 plan_by : (l : ℕ) (grows : List ℕ) (count : ℕ) → plan_growth (pos l) grows count ≡ table 128 (λ k. pos (share_by l (λ (j : ℕ). get_or grows j 0) (min count 128) k))
-unfolding plan_growth share share_with_unit whole_share remainder missing grow_sum rank share_by
+unfolding plan_growth share share_with_unit whole_share remainder missing grow_sum rank share_by one_share ahead in_whole
 plan_by l grows count = refl
 
-same_grows_same_plan : (l : ℤ) (g h : List ℕ) (count : ℕ) → ((k : ℕ) → get_or g k 0 ≡ get_or h k 0) → plan_growth l g count ≡ plan_growth l h count
+module _ (l n : ℕ) (f g : ℕ → ℕ) (e : (k : ℕ) → k < n → f k ≡ g k) where
+  inside : (k s : ℕ) → k < n → one_share l s n k (f k) (ahead l s n k (f k) f) (in_whole l s n f) ≡ one_share l s n k (g k) (ahead l s n k (g k) g) (in_whole l s n g)
+  unfolding ahead in_whole
+  inside k s h =
+      let a : ahead l s n k (f k) f ≡ ahead l s n k (f k) g = equal_summands_equal_sums (λ j. comes_before (l * f k % s) k (l * f j % s) j) (λ j. comes_before (l * f k % s) k (l * g j % s) j) n (λ j i. ap (λ (x : ℕ). comes_before (l * f k % s) k (l * x % s) j) (e j i)) in
+      let w : in_whole l s n f ≡ in_whole l s n g = equal_summands_equal_sums (λ j. l * f j / s) (λ j. l * g j / s) n (λ j i. ap (λ (x : ℕ). l * x / s) (e j i)) in
+      ap (λ (p : ℕ). one_share l s n k (f k) p (in_whole l s n f)) a
+      ∙ ap (one_share l s n k (f k) (ahead l s n k (f k) g)) w
+      ∙ ap (λ (x : ℕ). one_share l s n k x (ahead l s n k x g) (in_whole l s n g)) (e k h)
+
+  same_share : (k : ℕ) → share_by l f n k ≡ share_by l g n k
+  unfolding share_by
+  same_share k =
+      ap (λ (s : ℕ). one_share l s n k (f k) (ahead l s n k (f k) f) (in_whole l s n f)) (equal_summands_equal_sums f g n e) ∙ go (dec_lt k n)
+    where
+      go : Dec (k < n) → one_share l (sum_to g n) n k (f k) (ahead l (sum_to g n) n k (f k) f) (in_whole l (sum_to g n) n f) ≡ one_share l (sum_to g n) n k (g k) (ahead l (sum_to g n) n k (g k) g) (in_whole l (sum_to g n) n g)
+      go (yes h) = inside k (sum_to g n) h
+      go (no h) = no_share l (sum_to g n) n k (f k) (g k) _ _ _ _ (le-ltb k n (omega arith))
+
+-- a plan for so many places reads no others
+same_grows_same_plan : (l : ℤ) (g h : List ℕ) (count : ℕ) → ((k : ℕ) → k < count → get_or g k 0 ≡ get_or h k 0) → plan_growth l g count ≡ plan_growth l h count
 unfolding plan_growth
-same_grows_same_plan (pos l) g h count e = plan_by l g count ∙ ap (λ (f : ℕ → ℕ). table 128 (λ k. pos (share_by l f (min count 128) k))) (fun_ext e) ∙ sym (plan_by l h count)
+same_grows_same_plan (pos l) g h count e =
+    plan_by l g count
+    ∙ ap (table 128) (fun_ext (λ k. ap (λ (s : ℕ). pos s) (same_share l (min count 128) (λ j. get_or g j 0) (λ j. get_or h j 0) (λ j i. e j (omega arith)) k)))
+    ∙ sym (plan_by l h count)
 same_grows_same_plan (negsuc l) g h count e = refl
 
-before_zeros : (g z : List ℕ) → ((k : ℕ) → get_or z k 0 ≡ 0) → (k : ℕ) → get_or (g ++ z) k 0 ≡ get_or g k 0
-before_zeros [] z h k = h k
-before_zeros (x ∷ g) z h zero = refl
-before_zeros (x ∷ g) z h (suc k) = before_zeros g z h k
+in_front : (g z : List ℕ) (k : ℕ) → k < length g → get_or (g ++ z) k 0 ≡ get_or g k 0
+in_front [] z k h = absurd (omega arith)
+in_front (x ∷ g) z zero h = refl
+in_front (x ∷ g) z (suc k) h = in_front g z k (omega arith)
 
-padded_read : (g : List ℕ) → length g ≤ 128 → (k : ℕ) → get_or (sets no_grows 0 g) k 0 ≡ get_or g k 0
-unfolding no_grows
-padded_read g h k =
-    ap (λ (l : List ℕ). get_or l k 0) (sets-eq g (replicate 128 0) 0 (omega (arith, h, length-replicate {A = ℕ} 128 0)))
-    ∙ before_zeros g (drop (0 + length g) (replicate 128 0)) (λ j. get_or-drop (0 + length g) (replicate 128 0) j 0 ∙ zero_read 128 (0 + length g + j)) k
+written_read : (b g : List ℕ) → length g ≤ length b → (k : ℕ) → k < length g → get_or (sets b 0 g) k 0 ≡ get_or g k 0
+written_read b g h k i =
+    ap (λ (l : List ℕ). get_or l k 0) (sets-eq g b 0 (omega (arith, h)))
+    ∙ in_front g (drop (0 + length g) b) k i
 
 -- ---- the sum
 
@@ -114,6 +151,12 @@ some_grows g (suc n) h =
 
 -- ---- a node's children placed
 
+-- where no shares count, each is read as 0
+pub counted_share : (b : Bool) (shares : List ℤ) (n : ℕ) → cond b (get_or shares n (pos 0)) (pos 0) ≡ get_or (cond b shares no_shares) n (pos 0)
+unfolding no_shares
+counted_share true shares n = refl
+counted_share false shares n = sym (read_alike 128 n (pos 0))
+
 boxes_take : (s : Style) (cx cy inner cursor : ℤ) (shares : List ℤ) (cs : List Child) → boxes s cx cy inner cursor (take (length cs) shares) cs ≡ boxes s cx cy inner cursor shares cs
 unfolding boxes
 boxes_take s cx cy inner cursor shares [] = refl
@@ -123,10 +166,11 @@ boxes_take s cx cy inner cursor (x ∷ xs) (c ∷ cs) =
     ∙ ap (λ (rs : List Rect). box_at s cx cy inner cursor x c ∷ rs) (boxes_take s cx cy inner (past_of s cursor x c) xs cs)
     ∙ sym (boxes_more s cx cy inner cursor (x ∷ xs) c cs)
 
-pub placed_by_parts : (s : Style) (r : Rect) (cs : List Child) (cx cy across cursor leftover free : ℤ) (shares : List ℤ) (g : List ℕ) (n : ℕ)
+pub placed_by_parts : (s : Style) (r : Rect) (cs : List Child) (cx cy across cursor leftover free : ℤ) (shares : List ℤ) (before g : List ℕ) (n : ℕ)
+    → length before ≡ 128
     → length cs ≤ 128
     → n ≡ length cs
-    → g ≡ sets no_grows 0 (map grow_of cs)
+    → g ≡ sets before 0 (map grow_of cs)
     → cx ≡ add_sat r.x s.padding.left
     → cy ≡ add_sat r.y s.padding.top
     → across ≡ (inner_of s.direction s.padding r).cross
@@ -136,11 +180,11 @@ pub placed_by_parts : (s : Style) (r : Rect) (cs : List Child) (cx cy across cur
     → cursor ≡ offset s.justify free
     → boxes s cx cy across cursor shares cs ≡ place s r cs
 unfolding place inner_of
-placed_by_parts s r cs cx cy across cursor leftover free shares g n few hn hg hx hy ha hl hs hf hc =
+placed_by_parts s r cs cx cy across cursor leftover free shares before g n long few hn hg hx hy ha hl hs hf hc =
     let many : List ℕ = map grow_of cs in
     let plan : plan_growth leftover g n ≡ plan_growth leftover many (length cs) =
     ap (λ (l : List ℕ). plan_growth leftover l n) hg
-    ∙ same_grows_same_plan leftover (sets no_grows 0 many) many n (padded_read many (omega (arith, length-map cs grow_of)))
+    ∙ same_grows_same_plan leftover (sets before 0 many) many n (λ k i. written_read before many (omega (arith, length-map cs grow_of)) k (omega (arith, length-map cs grow_of)))
     ∙ ap (plan_growth leftover many) hn in
     let start : cursor ≡ offset s.justify (sub_sat leftover (total (take (length cs) (plan_growth leftover many (length cs))))) =
     hc ∙ ap (offset s.justify) (hf ∙ ap (λ (k : ℕ). sub_sat leftover (total (take k (plan_growth leftover g n)))) hn ∙ ap (λ (l : List ℤ). sub_sat leftover (total (take (length cs) l))) plan) in

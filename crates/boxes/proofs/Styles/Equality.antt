@@ -22,6 +22,7 @@ use Rattle.boxes.specs.contracts.EdgesPartialEq.TheImpl as edges
 use Rattle.boxes.specs.contracts.SizePartialEq.TheImpl as size
 use Rattle.boxes.specs.contracts.AlignPartialEq.TheImpl as align
 use Rattle.boxes.specs.contracts.DirectionPartialEq.TheImpl as direction
+use Rattle.std.proofs.Math.Bool.{and-true, and-false}
 use Rattle.boxes.proofs.Styles.GeometryLaws.{same_z_is, z_refl}
 
 pub equal_raws : (x y : ℤ) → int_eq x y ≡ same_z x y
@@ -53,20 +54,21 @@ equal_aligns End End = refl
 equal_edges : (a b : Edges) → edges.eq-value.it a b ≡ same_edges a b
 equal_edges a b = rw (equal_raws a.left b.left, equal_raws a.right b.right, equal_raws a.top b.top, equal_raws a.bottom b.bottom) refl
 
-and_true : (b : Bool) → (b && true) ≡ b
-and_true true = refl
-and_true false = refl
+-- a test after six others, put before them: a style's direction is stored behind its lengths
+put_first : (d a b c e f g rest : Bool) → (a && (b && (c && (e && (f && (g && (d && rest))))))) ≡ (d && (a && (b && (c && (e && (f && (g && rest)))))))
+put_first true a b c e f g rest = refl
+put_first false a b c e f g rest = simp (and-false) refl
 
 -- with the other's background a style differs from it just where its geometry does; the gap is known by what a read of it gives
 abbrev pub with_background : Style → ℤ → List ℕ → Style
 with_background a gap bytes = record {
-  direction = a.direction;
   width = a.width;
   height = a.height;
   margin = a.margin;
   padding = a.padding;
   gap = gap;
   grow = a.grow;
+  direction = a.direction;
   justify = a.justify;
   align_cross = a.align_cross;
   background = bytes;
@@ -86,8 +88,8 @@ differ_in_geometry a b e =
       equal_aligns a.justify b.justify,
       equal_aligns a.align_cross b.align_cross,
       nat_list_eq_equiv.refl b.background,
-      and_true,
-    ) refl
+      and-true,
+    ) (ap not (put_first (same_direction a.direction b.direction) (same_size a.width b.width) (same_size a.height b.height) (same_edges a.margin b.margin) (same_edges a.padding b.padding) (same_z a.gap b.gap) (same a.grow b.grow) (same_align a.justify b.justify && same_align a.align_cross b.align_cross)))
 
 pub equal_views : (v w : Viewport) → view.eq-value.it v w ≡ same_view v w
 equal_views v w = rw (equal_raws v.width w.width, equal_raws v.height w.height) refl

@@ -27,6 +27,8 @@ pub const ABSORB: u32 = 21;
 pub const MEASURE: u32 = 22;
 pub const NARROW_LINES: u32 = 23;
 pub const WIDE_LINES: u32 = 24;
+pub const CHECK: u32 = 25;
+pub const COPIES: u32 = 26;
 
 const ON_TREES: [(u32, &str); 20] = [
     (INSERT_REMOVE, "`insert` and `remove` of a leaf"),
@@ -51,6 +53,9 @@ const ON_TREES: [(u32, &str); 20] = [
     (ABSORB, "`absorb`"),
 ];
 
+/// What calls by value are measured against. The source has no such calls.
+const FLOOR: [(u32, &str); 2] = [(CHECK, "the check alone"), (COPIES, "the tree copied out and back")];
+
 const SHAPES: [(u32, &str); 5] = [
     (ROOT, "root alone"),
     (FORM, "form of 20"),
@@ -67,15 +72,38 @@ pub struct Row {
     pub tree: &'static str,
 }
 
+impl Row {
+    /// Whether it is of the floor, and no call.
+    pub fn is_floor(&self) -> bool {
+        FLOOR.iter().any(|&(kind, _)| kind == self.kind)
+    }
+
+    /// How many checks, and how many times the tree copied out and back, its calls can't do without, on a tree of 128 nodes: a call has one check,
+    /// and the copies where it gives a tree.
+    pub fn least(&self) -> Option<[f64; 2]> {
+        if self.is_floor() || !matches!(self.shape, FLAT | CHAIN | EIGHTS) {
+            return None;
+        }
+        Some(match self.kind {
+            FIELD_TEXT | FIELD_CURSOR | METRES | RECT | IS_LIVE | FIRST_CHILD | NEXT_SIBLING | ABSORB => {
+                [1.0, 0.0]
+            }
+            INSERT_REMOVE => [2.0, 2.0],
+            OUTPUT => [3.0, 3.0],
+            _ => [1.0, 1.0],
+        })
+    }
+}
+
 pub fn rows() -> Vec<Row> {
     let row = |kind, call, shape, tree| Row { kind, call, shape, tree };
     let mut all = vec![row(NEW, "`new`", ROOT, "limit 128")];
-    for (kind, call) in ON_TREES {
-        all.extend(SHAPES.map(|(shape, tree)| row(kind, call, shape, tree)));
-    }
+    let on_trees = |(kind, call)| SHAPES.map(|(shape, tree)| row(kind, call, shape, tree));
+    all.extend(ON_TREES.into_iter().flat_map(on_trees));
     all.push(row(REMOVE_PANEL, "`remove` of a panel", PANEL, "60 of 80"));
     all.push(row(MEASURE, "`measure`", ROOT, "26 bytes, no tree"));
     all.push(row(NARROW_LINES, "`break_lines`, 120 pixels", ROOT, "1,024 bytes, no tree"));
     all.push(row(WIDE_LINES, "`break_lines`, 400 pixels", ROOT, "1,024 bytes, no tree"));
+    all.extend(FLOOR.into_iter().flat_map(on_trees));
     all
 }

@@ -10,7 +10,7 @@ mod source;
 
 use core::hint::black_box;
 
-use kinds::{REMOVE_PANEL, Row};
+use kinds::{CHECK, COPIES, REMOVE_PANEL, Row};
 
 /// A run builds a tree once and takes this many rounds on it.
 const ROUNDS: usize = 3;
@@ -83,9 +83,8 @@ impl Timing {
         equal
     }
 
-    fn show(&self, row: &Row) {
-        let [source, proved] = self.times.each_ref().map(|times| median(times.clone()));
-        println!("| {} | {} | {source:.1} | {proved:.1} | {:.2} |", row.call, row.tree, proved / source);
+    fn medians(self) -> [f64; 2] {
+        self.times.map(median)
     }
 }
 
@@ -99,9 +98,43 @@ fn lower<R>(steps: usize, work: impl FnOnce() -> R) -> R {
     result
 }
 
-/// Writes the table; how many runs end otherwise than they should. A pass goes over all rows, so that what else the machine does for
+/// A row, and the nanoseconds of a call on each side.
+type Timed<'a> = (&'a Row, [f64; 2]);
+
+fn show_calls(timed: &[Timed]) {
+    println!("| call | tree | Rust, ns | Rattle, ns | ratio |");
+    println!("|---|---|---:|---:|---:|");
+    for (row, [source, proved]) in timed.iter().filter(|(row, _)| !row.is_floor()) {
+        println!("| {} | {} | {source:.1} | {proved:.1} | {:.2} |", row.call, row.tree, proved / source);
+    }
+}
+
+/// What a row's calls can't go below: their checks and copies, each as long as it takes by itself on the same tree.
+fn floor(row: &Row, timed: &[Timed]) -> Option<f64> {
+    let alone = |kind| timed.iter().find(|(other, _)| (other.kind, other.shape) == (kind, row.shape));
+    let [checks, copies] = row.least()?;
+    let ((_, [_, check]), (_, [_, both])) = (alone(CHECK)?, alone(COPIES)?);
+    Some(checks * check + copies * both)
+}
+
+/// The proved side beside its floor; first what the floor is made of.
+fn show_floor(timed: &[Timed]) {
+    println!("| call | tree | floor, ns | Rattle, ns | ratio | above, ns |");
+    println!("|---|---|---:|---:|---:|---:|");
+    for (row, [_, proved]) in timed.iter().filter(|(row, _)| row.is_floor()) {
+        println!("| {} | {} | | {proved:.1} | | |", row.call, row.tree);
+    }
+    for (row, [_, proved]) in timed {
+        if let Some(floor) = floor(row, timed) {
+            let (ratio, above) = (proved / floor, proved - floor);
+            println!("| {} | {} | {floor:.1} | {proved:.1} | {ratio:.2} | {above:.1} |", row.call, row.tree);
+        }
+    }
+}
+
+/// Writes both tables; how many runs end otherwise than they should. A pass goes over all rows, so that what else the machine does for
 /// some seconds spoils few rounds of each.
-fn table(rows: &[Row]) -> usize {
+fn tables(rows: &[Row]) -> usize {
     let mut timings: Vec<Timing> = rows.iter().map(Timing::new).collect();
     let mut differ = 0;
     for pass in 0..PASSES {
@@ -109,11 +142,10 @@ fn table(rows: &[Row]) -> usize {
             differ += usize::from(!lower(pass, || timing.pass(row, pass)));
         }
     }
-    println!("| call | tree | Rust, ns | Rattle, ns | ratio |");
-    println!("|---|---|---:|---:|---:|");
-    for (row, timing) in rows.iter().zip(&timings) {
-        timing.show(row);
-    }
+    let timed: Vec<Timed> = rows.iter().zip(timings.into_iter().map(Timing::medians)).collect();
+    show_calls(&timed);
+    println!();
+    show_floor(&timed);
     differ
 }
 
@@ -130,19 +162,21 @@ fn checked(row: &Row) -> bool {
     same(row, FEW, proved::fingerprint(row.shape, row.kind, FEW))
 }
 
-/// `--check` compares and times nothing; any other word leaves only the rows that have it in them.
+/// `--check` compares and times nothing; any other word leaves only the rows that have it in them. What the floor is made of is timed in
+/// any case.
 fn main() {
     let (options, words): (Vec<String>, Vec<String>) =
         std::env::args().skip(1).partition(|word| word == "--check");
     let check = !options.is_empty();
     let named = |row: &Row| words.iter().all(|word| row.call.contains(word) || row.tree.contains(word));
-    let rows: Vec<Row> = kinds::rows().into_iter().filter(named).collect();
-    if rows.is_empty() {
+    let all = kinds::rows();
+    if !all.iter().any(named) {
         println!("bench: no row has these words");
         std::process::exit(2);
     }
+    let rows: Vec<Row> = all.into_iter().filter(|row| named(row) || (!check && row.is_floor())).collect();
     let differ =
-        if check { rows.iter().filter(|row| !checked(row)).count() } else { on_a_stack(|| table(&rows)) };
+        if check { rows.iter().filter(|row| !checked(row)).count() } else { on_a_stack(|| tables(&rows)) };
     if differ != 0 {
         println!("bench: {differ} runs end with other fingerprints");
         std::process::exit(1);

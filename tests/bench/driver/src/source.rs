@@ -198,6 +198,9 @@ fn read(ui: &mut Ui, shape: u32, kind: u32, n: u32, acc: u64) -> u64 {
         }),
         NARROW_LINES => lines(120, n, acc),
         WIDE_LINES => lines(400, n, acc),
+        // What the floor answers; the source neither checks a tree nor copies it.
+        CHECK => turns(ui, n, acc, |_, _, acc| mix(acc, 0)),
+        COPIES => turns(ui, n, acc, |ui, _, acc| mix(acc, ui.live().into())),
         _ => acc,
     }
 }

@@ -10,5 +10,5 @@ use Rattle.arena.proofs.fields.field_place.Goals as goal
 pub returns : goal.returns
 unfolding place_of
 returns c =
-    let e : c.position.result ≡ place_of c.args.d c.args.fields = position_from_yields_List (owns c.args.d) _ _ c.position.result c.position.ensures.ran (YieldsList-from_slice c.args.fields cc) (λ x b q k. search rules) in
-    (e, ap (field_at c.args.fields) e ∙ the_place_has_the_field c.args.d c.args.fields)
+    let e : c.position.result ≡ place_of c.args.d c.args.fields.now = position_from_yields_List (owns c.args.d) _ _ c.position.result c.position.ensures.ran (YieldsList-from_slice c.args.fields.now cc) (λ x b q k. search rules) in
+    (e, ap (field_at c.args.fields.now) e ∙ the_place_has_the_field c.args.d c.args.fields.now)

@@ -7,4 +7,4 @@ use Rattle.arithmetic.proofs.LoopLaws.{map_to}
 use Rattle.arena.proofs.fields.reclaim.Given as goal
 
 abbrev pub invariant-loop-f : goal.invariant-loop-f
-invariant-loop-f l = l.f-items ≡ map_to (λ (f : Field). cond (owner_dead l.limit l.slots f.owner) empty_field f) l.initial.f-items l.f-index
+invariant-loop-f l = l.fields ≡ map_to (λ (f : Field). cond (owner_dead l.limit l.slots f.owner) empty_field f) l.initial.fields l.f-index

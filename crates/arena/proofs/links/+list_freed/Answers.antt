@@ -18,7 +18,7 @@ returns-in_default t c =
     let s = c.args.slots.now in
     let e : length s ≡ 128 = search rules in
     sym (children_end s _ (128 - l.counter) _ l.child (omega (arith, c.in_default.ensures.lookup.3))) ∙ l.invariant
-    ∙ back_order_whole _ s _ _ c.if-depth-eq0.false c.push.ensures (ap (λ (x : Slot). x.last_child) c.read-child.ensures)
+    ∙ back_order_whole _ s _ _ c.if-depth-eq0.false c.push.ensures (ap (λ (x : Slot). x.last_child) c.slot_at-child.ensures)
 
 pub loop-preserved : goal.loop-preserved
 unfolding at
@@ -35,4 +35,4 @@ returns t c =
     let l = c.loop in
     let s = c.args.slots.now in
     sym (children_done s _ (128 - l.counter) _ l.child (omega arith)) ∙ l.invariant
-    ∙ back_order_whole _ s _ _ c.if-depth-eq0.false c.push.ensures (ap (λ (x : Slot). x.last_child) c.read-child.ensures)
+    ∙ back_order_whole _ s _ _ c.if-depth-eq0.false c.push.ensures (ap (λ (x : Slot). x.last_child) c.slot_at-child.ensures)

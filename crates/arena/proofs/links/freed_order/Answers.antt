@@ -8,5 +8,5 @@ use Rattle.arena.proofs.links.freed_order.Goals as goal
 pub returns : goal.returns
 unfolding walked
 returns c =
-    let l = back_order 128 c.args.slots c.args.node in
+    let l = back_order 128 c.args.slots.now c.args.node in
     listed_by_a_walk _ l (c.list_freed.ensures ∙ ap (λ (o : Listed 128). added_all o l) c.new-order.ensures)

@@ -9,13 +9,13 @@ pub returns : goal.returns
 unfolding link_last link_after same change
 returns c =
     let a = c.args in
-    let e : c.change.result ≡ change c.if-last.linked a.parent (set_last a.index) = search rules in
+    let e : c.change-2.new.slots ≡ change c.if-last.slots a.parent (set_last a.index) = search rules in
     elim c.if-last.branch [
       | then-last w ↦
-          let f : w.change-linked.result ≡ change a.slots a.parent (set_first a.index) = search rules in
-          simp (e, w.linked-is, f, ← c.slot_at-last.ensures, eq-eqb _ _ w.if-last.true)
+          let f : w.change.new.slots ≡ change a.slots.now a.parent (set_first a.index) = search rules in
+          simp (e, w.slots-is, f, ← c.slot_at-last.ensures, eq-eqb _ _ w.if-last.true)
       | else-last w ↦
-          let f : w.change-after.result ≡ change a.slots c.slot_at-last.result.last_child (set_next a.index) = search rules in
-          let g : w.change-linked-else-last.result ≡ change w.change-after.result a.index (set_prev c.slot_at-last.result.last_child) = search rules in
-          simp (e, w.linked-is, g, f, ← c.slot_at-last.ensures, ne_eqb _ _ w.if-last.false)
+          let f : w.change-else-last.new.slots ≡ change a.slots.now c.slot_at-last.result.last_child (set_next a.index) = search rules in
+          let g : w.change-else-last-2.new.slots ≡ change w.change-else-last.new.slots a.index (set_prev c.slot_at-last.result.last_child) = search rules in
+          simp (e, w.slots-is, g, f, ← c.slot_at-last.ensures, ne_eqb _ _ w.if-last.false)
     ]

@@ -10,14 +10,14 @@ unfolding unlink unlink_from same change
 returns-then-next c =
     let a = c.args in
     let s = c.slot_at-s.result in
-    let e : c.change.result ≡ change c.if-prev.before s.parent (set_last s.prev_sibling) = search rules in
+    let e : c.change-then-next.new.slots ≡ change c.if-prev.slots s.parent (set_last s.prev_sibling) = search rules in
     elim c.if-prev.branch [
       | then-prev w ↦
-          let f : w.change-before.result ≡ change a.slots s.parent (set_first s.next_sibling) = search rules in
-          simp (e, w.before-is, f, ← c.slot_at-s.ensures, eq-eqb _ _ w.if-prev.true, eq-eqb _ _ c.if-next.true)
+          let f : w.change.new.slots ≡ change a.slots.now s.parent (set_first s.next_sibling) = search rules in
+          simp (e, w.slots-is, f, ← c.slot_at-s.ensures, eq-eqb _ _ w.if-prev.true, eq-eqb _ _ c.if-next.true)
       | else-prev w ↦
-          let f : w.change-before-else-prev.result ≡ change a.slots s.prev_sibling (set_next s.next_sibling) = search rules in
-          simp (e, w.before-is, f, ← c.slot_at-s.ensures, ne_eqb _ _ w.if-prev.false, eq-eqb _ _ c.if-next.true)
+          let f : w.change-else-prev.new.slots ≡ change a.slots.now s.prev_sibling (set_next s.next_sibling) = search rules in
+          simp (e, w.slots-is, f, ← c.slot_at-s.ensures, ne_eqb _ _ w.if-prev.false, eq-eqb _ _ c.if-next.true)
     ]
 
 pub returns-else-next : goal.returns-else-next
@@ -25,12 +25,12 @@ unfolding unlink unlink_from same change
 returns-else-next c =
     let a = c.args in
     let s = c.slot_at-s.result in
-    let e : c.change-else-next.result ≡ change c.if-prev.before s.next_sibling (set_prev s.prev_sibling) = search rules in
+    let e : c.change-else-next.new.slots ≡ change c.if-prev.slots s.next_sibling (set_prev s.prev_sibling) = search rules in
     elim c.if-prev.branch [
       | then-prev w ↦
-          let f : w.change-before.result ≡ change a.slots s.parent (set_first s.next_sibling) = search rules in
-          simp (e, w.before-is, f, ← c.slot_at-s.ensures, eq-eqb _ _ w.if-prev.true, ne_eqb _ _ c.if-next.false)
+          let f : w.change.new.slots ≡ change a.slots.now s.parent (set_first s.next_sibling) = search rules in
+          simp (e, w.slots-is, f, ← c.slot_at-s.ensures, eq-eqb _ _ w.if-prev.true, ne_eqb _ _ c.if-next.false)
       | else-prev w ↦
-          let f : w.change-before-else-prev.result ≡ change a.slots s.prev_sibling (set_next s.next_sibling) = search rules in
-          simp (e, w.before-is, f, ← c.slot_at-s.ensures, ne_eqb _ _ w.if-prev.false, ne_eqb _ _ c.if-next.false)
+          let f : w.change-else-prev.new.slots ≡ change a.slots.now s.prev_sibling (set_next s.next_sibling) = search rules in
+          simp (e, w.slots-is, f, ← c.slot_at-s.ensures, ne_eqb _ _ w.if-prev.false, ne_eqb _ _ c.if-next.false)
     ]

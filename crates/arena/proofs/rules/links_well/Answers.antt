@@ -10,5 +10,5 @@ returns c =
     let a = c.args in
     let e : length c.reach_root-reached.result.order.items ≡ 128 = search rules in
     rw (le-leb _ _ c.if-limit-gt128.false)
-    (links_whole a.limit a.slots a.free a.live r.ensures.2 c.free_chain-chain.ensures.0 c.root_well-root.ensures c.each_once-each.ensures r.ensures.3 c.free_chain-chain.ensures.1
+    (links_whole a.limit a.slots.now a.free a.live r.ensures.2 c.free_chain-chain.ensures.0 c.root_well-root.ensures c.each_once-each.ensures r.ensures.3 c.free_chain-chain.ensures.1
     (sym (listed_length r.result.order (e, r.ensures.0))))

@@ -7,7 +7,7 @@ use Rattle.arena.proofs.rules.list_children.Goals as goal
 use Rattle.arena.proofs.rules.list_children.Goals.{else-loop-test, then-loop-test+in_default}
 
 pub loop-init : goal.loop-init
-loop-init c = rw c.read-s.ensures (passing_start c.args.slots.now c.args.node c.args.order.now)
+loop-init c = rw c.slot_at-s.ensures (passing_start c.args.slots.now c.args.node c.args.order.now)
 
 pub loop-preserved : goal.loop-preserved
 unfolding at same
@@ -26,4 +26,4 @@ returns c =
     let s = c.args.slots.now in
     let e : length s ≡ 128 = search rules in
     let d : chain (128 - l.counter) s l.child ≡ [] = elim c.loop-test.branch [ else-loop-test w ↦ chain_spent _ _ _ (omega arith) | then-loop-test+in_default w ↦ chain_none _ _ _ (omega (arith, w.in_default.ensures.lookup.3)) ] in
-    rw c.read-s.ensures (passing_done s c.args.node c.args.order.now l.order l.child l.prev (128 - l.counter) l.well l.invariant d)
+    rw c.slot_at-s.ensures (passing_done s c.args.node c.args.order.now l.order l.child l.prev (128 - l.counter) l.well l.invariant d)

@@ -21,17 +21,17 @@ pub loop-id-preserved : goal.loop-id-preserved
 unfolding kids_at at layout_at
 loop-id-preserved c =
     let l = c.loop-id in
-    let s = c.args.slots in
+    let s = c.args.slots.now in
     let i = c.in-Some.id.now in
     let rest = c.next.new.self.iter.rest.now in
     let e : l.id-iterator.iter.rest.now ≡ rest ++ i ∷ [] = c.in-Some.ensures.steps in
-    let sums = summing_done (layout_at l.out i).style refl c.loop-child.invariant c.loop-child-test.false in (
-      ap (λ (x : List LayoutSlot). measure_all s x rest) (measured s l.out i c.with_wants.result _ c.with_wants.ensures (c.want-e.ensures _ sums))
-          ∙ sym (measured_last s l.out rest i)
-          ∙ ap (measure_all s l.out) (sym e)
+    let sums = summing_done (layout_at l.layout i).style refl c.loop-child.invariant c.loop-child-test.false in (
+      ap (λ (x : List LayoutSlot). measure_all s x rest) (measured s l.layout i c.with_wants.result _ c.with_wants.ensures (c.want-e.ensures _ sums))
+          ∙ sym (measured_last s l.layout rest i)
+          ∙ ap (measure_all s l.layout) (sym e)
           ∙ l.invariant.0,
       small_front rest i (rw e at l.invariant.1),
     )
 
 pub returns : goal.returns
-returns c = measured_none c.args.slots c.loop-id.out c.loop-id.id-iterator.iter.rest.now c.in-None.ensures.steps.0 ∙ c.loop-id.invariant.0
+returns c = measured_none c.args.slots.now c.loop-id.layout c.loop-id.id-iterator.iter.rest.now c.in-None.ensures.steps.0 ∙ c.loop-id.invariant.0

@@ -20,12 +20,12 @@ pub loop-i-preserved : goal.loop-i-preserved
 loop-i-preserved c =
     let l = c.loop-i in
     let is = c.as_slice-i-items.result.now in
-    let n : length l.out ≡ 128 = l.invariant.0 in
-    let e : c.if-i-lt128.out ≡ set l.out (get_or is l.i-index 0) c.fresh_state-fresh.result =
-    elim c.if-i-lt128.branch [ then-i-lt128 w ↦ w.out-is | else-i-lt128 w ↦ w.out-is ∙ sym (set_out l.out _ _ (omega arith)) ] in
-    (ap length e ∙ length-set l.out _ _ ∙ n, reset_more l.out is l.i-index c.loop-i-test.true c.fresh_state-fresh.ensures e ∙ l.invariant.1)
+    let n : length l.states ≡ 128 = l.invariant.0 in
+    let e : c.if-i-lt128.states ≡ set l.states (get_or is l.i-index 0) c.fresh_state-fresh.result =
+    elim c.if-i-lt128.branch [ then-i-lt128 w ↦ w.states-is | else-i-lt128 w ↦ w.states-is ∙ sym (set_out l.states _ _ (omega arith)) ] in
+    (ap length e ∙ length-set l.states _ _ ∙ n, reset_more l.states is l.i-index c.loop-i-test.true c.fresh_state-fresh.ensures e ∙ l.invariant.1)
 
 pub returns : goal.returns
 returns c =
     let l = c.loop-i in
-    rw (← c.as_slice-i-items.ensures) (reset_done l.out c.as_slice-i-items.result.now l.i-index c.loop-i-test.false ∙ l.invariant.1)
+    rw (← c.as_slice-i-items.ensures) (reset_done l.states c.as_slice-i-items.result.now l.i-index c.loop-i-test.false ∙ l.invariant.1)

@@ -4,4 +4,4 @@ use Rattle.boxes.specs.States.{reset_states}
 use Rattle.boxes.proofs.nodes.reset_states.Given as goal
 
 abbrev pub invariant-loop-i : goal.invariant-loop-i
-invariant-loop-i l = (length l.out ≡ 128) × (reset_states l.out (drop l.i-index l.i-items) ≡ reset_states l.initial.out l.i-items)
+invariant-loop-i l = (length l.states ≡ 128) × (reset_states l.states (drop l.i-index l.i-items) ≡ reset_states l.initial.states l.i-items)

@@ -7,4 +7,4 @@ use Rattle.boxes.proofs.state.state_well.Goals as goal
 
 pub returns : goal.returns
 unfolding state_well
-returns c = ap₂ ◌&&◌ c.in_pool-worn.ensures (ap (λ (t : Bool). t && leb c.args.s.bits 7) c.table_in_pool-entries.ensures)
+returns c = ap₂ ◌&&◌ c.in_pool-worn.ensures (ap (λ (t : Bool). t && leb c.args.s.now.bits 7) c.table_in_pool-entries.ensures)

@@ -30,4 +30,4 @@ returns c =
     let k = length-take a.count a.stated in
     all_in_turn (take a.count a.stated) _ _ _ (none_left c.loop-i.turns c.loop-i.i-iterator.iter.rest.now none ∙ c.loop-i.invariant)
     c.turn_live.ensures c.turn_live-2.ensures c.turn_live-3.ensures
-    (omega (arith, k, n)) (at_most_one a.limit a.slots m.hover) (at_most_one a.limit a.slots m.pressed) (at_most_one a.limit a.slots m.focus)
+    (omega (arith, k, n)) (at_most_one a.limit a.slots.now m.hover) (at_most_one a.limit a.slots.now m.pressed) (at_most_one a.limit a.slots.now m.focus)

@@ -14,7 +14,7 @@ unfolding with_interaction with_fields edit_fold
 returns-then-has_changed c =
     let u = c.args.u.now in
     let h : place_of c.args.d u.fields ≡ Some c.in-Some.i = sym c.field_place.ensures.0 ∙ c.in-Some.is in
-    let fs : c.with_field-u.result ≡ change_first (owns c.args.d) (keyed_field c.args.key) u.fields = c.with_field-u.ensures ∙ ap (set u.fields c.in-Some.i) (c.keyed_field-g.ensures ∙ ap (keyed_field c.args.key) c.field_at-f.ensures) ∙ the_place_is_changed c.args.d (keyed_field c.args.key) u.fields c.in-Some.i h in
+    let fs : c.set_field.new.fields ≡ change_first (owns c.args.d) (keyed_field c.args.key) u.fields = c.set_field.ensures ∙ ap (set u.fields c.in-Some.i) (c.keyed_field-g.ensures ∙ ap (keyed_field c.args.key) c.field_at-f.ensures) ∙ the_place_is_changed c.args.d (keyed_field c.args.key) u.fields c.in-Some.i h in
     rw (← c.field_place.ensures.1, c.in-Some.is, ← fs, ← c.field_at-f.ensures, ← c.keyed_field-g.ensures, sym c.has_changed.ensures ∙ c.if-has_changed.true, c.edit_fold-u.ensures)
 
 pub returns-else-has_changed : goal.returns-else-has_changed
@@ -22,5 +22,5 @@ unfolding with_interaction with_fields
 returns-else-has_changed c =
     let u = c.args.u.now in
     let h : place_of c.args.d u.fields ≡ Some c.in-Some.i = sym c.field_place.ensures.0 ∙ c.in-Some.is in
-    let fs : c.with_field-u.result ≡ change_first (owns c.args.d) (keyed_field c.args.key) u.fields = c.with_field-u.ensures ∙ ap (set u.fields c.in-Some.i) (c.keyed_field-g.ensures ∙ ap (keyed_field c.args.key) c.field_at-f.ensures) ∙ the_place_is_changed c.args.d (keyed_field c.args.key) u.fields c.in-Some.i h in
+    let fs : c.set_field.new.fields ≡ change_first (owns c.args.d) (keyed_field c.args.key) u.fields = c.set_field.ensures ∙ ap (set u.fields c.in-Some.i) (c.keyed_field-g.ensures ∙ ap (keyed_field c.args.key) c.field_at-f.ensures) ∙ the_place_is_changed c.args.d (keyed_field c.args.key) u.fields c.in-Some.i h in
     rw (← c.field_place.ensures.1, c.in-Some.is, ← fs, ← c.field_at-f.ensures, ← c.keyed_field-g.ensures, sym c.has_changed.ensures ∙ c.if-has_changed.false)

@@ -11,7 +11,7 @@ use Rattle.text.proofs.Refusals.{no_word_is_0}
 use Rattle.field.specs.Fields.{empty_field, field_metres}
 use Rattle.field.specs.declared.Field.{Field}
 use Rattle.field.specs.declared.NodeId.{NodeId}
-use Rattle.tree.specs.Answers.{field_place, changed_of}
+use Rattle.tree.specs.Answers.{field_place}
 use Rattle.tree.specs.Calls.{gives}
 use Rattle.tree.specs.Trees.{with_fields}
 use Rattle.tree.specs.declared.Ui.{Ui}
@@ -20,6 +20,7 @@ use Rattle.tree.proofs.TakenLaws.{a_read_finds_the_field, the_place_that_is_foun
 use Rattle.desk.specs.Marks as marks
 use Rattle.desk.specs.Marks.{confirm_field}
 use Rattle.desk.proofs.MarkSteps.{confirmed}
+use borrow.Author.Rules.{rules}
 use Rattle.desk.proofs.marks.confirm.Goals as goal
 
 module _ (u : Ui) (d : NodeId) {i : ℕ} (p : field_place u d ≡ Ok i) {f : Field} (e : f ≡ get_or u.fields i empty_field) where
@@ -37,15 +38,13 @@ module _ (u : Ui) (d : NodeId) {i : ℕ} (p : field_place u d ≡ Ok i) {f : Fie
       let c = s ∙ ap (λ (g : Field). set u.fields i (confirmed g)) e ∙ the_place_is_changed d confirmed u.fields i (the_place_that_is_found u d i p) in
       ap (λ (l : List Field). gives (with_fields u l) 0) c ∙ (rw (← m) at of_the_field)
 
-pub returns-in-Err-metres : goal.returns-in-Err-metres
-returns-in-Err-metres c =
-    let m = ap (answered 0) (sym c.in-Err-metres.is) ∙ c.metres.ensures in
-    ap changed_of c.refused-in-Err-metres.ensures
-    ∙ unread c.args.u c.args.d (sym c.field_place.ensures ∙ c.in-Ok.is) c.field_at-f.ensures c.in-Err-metres.word m
+pub returns-in_err-metres : goal.returns-in_err-metres
+returns-in_err-metres c =
+    let e : c.from_residual-in_err-metres.result ≡ Err c.in_err-metres.field-0.0 = search rules in
+    rw e (unread c.args.u.now c.args.d (sym c.field_place.ensures ∙ c.in_ok-i.was) c.field_at-f.ensures c.in_err-metres.field-0.0 c.in_err-metres.ensures)
 
 pub returns : goal.returns
 unfolding with_fields
 returns c =
-    let m = ap (answered 0) (sym c.in_default.is) ∙ c.metres.ensures in
-    ap changed_of c.accepted.ensures
-    ∙ read c.args.u c.args.d (sym c.field_place.ensures ∙ c.in-Ok.is) c.field_at-f.ensures c.in_default.field-0 m (c.with_field-u.ensures ∙ ap (set c.args.u.fields c.in-Ok.i) c.confirmed.ensures)
+    read c.args.u.now c.args.d (sym c.field_place.ensures ∙ c.in_ok-i.was) c.field_at-f.ensures c.in_ok-metres.field-0 c.in_ok-metres.ensures
+    (c.set_field.ensures ∙ ap (set c.args.u.now.fields c.in_ok-i.i) c.confirmed.ensures)

@@ -17,6 +17,6 @@ returns c =
     let o = c.freed_order-order.result in
     let i = c.args.index in
     let long : length o.items ≡ 128 = search rules in
-    let gone : listed o ≡ walked (unlink c.args.u.now.slots i) i = c.freed_order-order.ensures.1 ∙ ap (λ (s : List Slot). walked s i) c.unlink-rest.ensures in
+    let gone : listed o ≡ walked (unlink c.args.u.now.slots i) i = c.freed_order-order.ensures.1 ∙ ap (λ (s : List Slot). walked s i) c.unlink.ensures in
     let n : o.count ≡ length (walked (unlink c.args.u.now.slots i) i) = sym (length-take-le o.count o.items (omega (arith, c.freed_order-order.ensures.0))) ∙ ap length gone in
-    rw (c.saturating_sub-u.ensures, c.reset_states-u.ensures, c.free_listed-free.ensures.0, c.free_listed-free.ensures.1, gone, c.unlink-rest.ensures, n)
+    rw (c.saturating_sub-u.ensures, c.reset_states.ensures, c.free_listed-u.ensures.0, c.free_listed-u.ensures.1, gone, c.unlink.ensures, n)

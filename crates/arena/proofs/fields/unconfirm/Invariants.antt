@@ -2,7 +2,7 @@
 use Rattle.std.proofs.Common.{◌≡◌}
 use Rattle.field.specs.Fields.{unconfirmed}
 use Rattle.arithmetic.proofs.LoopLaws.{map_to}
-use Rattle.arena.proofs.fields.unconfirmed.Given as goal
+use Rattle.arena.proofs.fields.unconfirm.Given as goal
 
 abbrev pub invariant-loop-f : goal.invariant-loop-f
-invariant-loop-f l = l.f-items ≡ map_to unconfirmed l.initial.f-items l.f-index
+invariant-loop-f l = l.fields ≡ map_to unconfirmed l.initial.fields l.f-index

@@ -1,6 +1,6 @@
 use Rattle.std.proofs.Common.{arith}
 use Rattle.arithmetic.proofs.LoopLaws.{each_none, each_turn, each_done}
-use Rattle.arena.proofs.fields.unconfirmed.Goals as goal
+use Rattle.arena.proofs.fields.unconfirm.Goals as goal
 
 pub loop-f-init : goal.loop-f-init
 loop-f-init c = each_none _ _
