@@ -3,6 +3,11 @@ ghost use Rattle.std.specs.Prelude.{◌≡◌, ◌+◌, ◌*◌, ◌/◌, ◌%�
 ghost use Rattle.arithmetic.specs.Growth.{grow_sum, table, plan_growth};
 ghost use Rattle.arithmetic.specs.Support.Steps.{Divisible, PartsOf, FirstLargest, RoomForUnits, with_unit};
 
+// The long division takes 24 bits at a time: the sum of 128 grows is below 2^39, and a remainder of it with 24 bits more fits 64.
+const DIGIT: u64 = 16777216;
+
+const TWO_DIGITS: u64 = 281474976710656;
+
 // What a division gives.
 #[derive(Clone, Copy)]
 struct Division {
@@ -10,15 +15,19 @@ struct Division {
     remainder: u64,
 }
 
-// Quotient and remainder of l * g by t, where l * g may have 95 bits.
+// Quotient and remainder of l * g by t, where l * g may have 95 bits: the digits of l, highest first, each times g.
+// Kept: no `u128`, whose division is a function that a static library would need from outside.
 fn mul_div(l: u64, g: u32, t: u64) -> Division
     requires { Divisible l g t }
     ensures { (result.quotient ≡ l * g / t) × (result.remainder ≡ l * g % t) }
 {
-    let product = l as u128 * g as u128;
+    let w = g as u64;
+    let high = l / TWO_DIGITS * w;
+    let middle = high % t * DIGIT + l / DIGIT % DIGIT * w;
+    let low = middle % t * DIGIT + l % DIGIT * w;
     Division {
-        quotient: (product / t as u128) as u64,
-        remainder: (product % t as u128) as u64,
+        quotient: high / t * TWO_DIGITS + middle / t * DIGIT + low / t,
+        remainder: low % t,
     }
 }
 

@@ -1,11 +1,12 @@
 // One call, read from a line.
+use crate::label;
 use crate::styles::style;
 use arithmetic::fold::StateHash;
+use arrayvec::ArrayVec;
 use desk::UiEvent;
 use field::{EditOp, NodeId};
 use report::words;
 use report::words::number;
-use std::alloc::{AllocError, Global};
 use tree::{StatePatch, Style, Viewport};
 
 // What a line asks for.
@@ -17,9 +18,9 @@ pub enum Call {
     Insert(NodeId),
     Output,
     // The others need no tree.
-    Measure(Vec<u8>),
+    Measure(ArrayVec<u8, 512>),
     Patch(StatePatch),
-    Label(Vec<u8>),
+    Label(ArrayVec<u8, 512>),
     Lines(Lines),
 }
 
@@ -61,7 +62,7 @@ pub enum Change {
 #[derive(Clone, Copy)]
 pub struct Lines {
     pub width: u32,
-    pub room: u32,
+    pub room: usize,
 }
 
 // ID: two words.
@@ -160,7 +161,7 @@ fn change_of(words: &[&[u8]]) -> Option<Change> {
 fn lines_of(width: &[u8], room: &[u8]) -> Option<Lines> {
     Some(Lines {
         width: number(width)?,
-        room: number(room).filter(|n| *n <= 1100)?,
+        room: number(room).filter(|n| *n <= label::ROOM)?,
     })
 }
 
@@ -180,7 +181,9 @@ fn call_of(words: &[&[u8]]) -> Option<Call> {
     match words {
         [b"insert", parent @ ..] => id(parent).map(Call::Insert),
         [b"output"] => Some(Call::Output),
+        [b"measure", text] => words::hex(text).map(Call::Measure),
         [b"patch", touches, worn @ ..] => patch_of(touches, worn).map(Call::Patch),
+        [b"label", text] => words::hex(text).map(Call::Label),
         [b"lines", width, room] => lines_of(width, room).map(Call::Lines),
         others => reading_of(others)
             .map(Call::Reading)
@@ -188,12 +191,17 @@ fn call_of(words: &[&[u8]]) -> Option<Call> {
     }
 }
 
+// The most words of a call: a `style`.
+const WORDS: usize = 22;
+
 // The call that a line is, its newline not included; none where it is malformed.
-pub(crate) fn read(alloc: Global, line: &[u8]) -> Result<Option<Call>, AllocError> {
-    let words: Vec<&[u8]> = line.split(|b| *b == b' ').collect(alloc)?;
-    match words.as_slice() {
-        [b"measure", text] => Ok(words::hex(alloc, text)?.map(Call::Measure)),
-        [b"label", text] => Ok(words::hex(alloc, text)?.map(Call::Label)),
-        others => Ok(call_of(others)),
+pub(crate) fn read(line: &[u8]) -> Option<Call> {
+    let none: &[u8] = &[];
+    let mut words = [none; WORDS];
+    let mut count = 0;
+    for word in line.split(|b| *b == b' ') {
+        *words.get_mut(count)? = word;
+        count += 1;
     }
+    call_of(words.get(..count)?)
 }

@@ -9,16 +9,22 @@ mod styles;
 mod turn;
 mod waiting;
 
+use arrayvec::ArrayVec;
 use calls::Call;
 use report::pipes;
+use report::pipes::{Input, Output};
 use std::io;
-use std::io::{BufReader, BufWriter, IsTerminal, Write};
+use std::io::{IsTerminal, Write};
 use tree::{Ui, UiLimits};
+use waiting::Patches;
 
 // The most bytes of a script, and of a line without its newline.
 const SCRIPT: usize = 1048576;
 
 const LINE: usize = 1024;
+
+// No answer but that of `lines` has so many bytes.
+const ANSWER: usize = 196;
 
 // Tells a person at a terminal how to go on. Standard output carries the answers alone, so that this goes to standard error.
 fn greet(rt: &impl Eprint, input: &impl IsTerminal) -> io::Result<()> {
@@ -32,21 +38,23 @@ fn greet(rt: &impl Eprint, input: &impl IsTerminal) -> io::Result<()> {
 
 // The tree goes on in the last answer. Each line takes one byte or more of the script.
 fn main(rt: HostRuntime) -> io::Result<()> {
-    let alloc = rt.alloc();
     greet(&rt, &rt.stdin())?;
-    let mut input = BufReader::new(alloc, rt.stdin())?;
-    let mut out = BufWriter::new(alloc, io::writer(&rt))?;
+    let mut input = Input::new(rt.stdin());
+    let mut out = Output::<_, 4096>::new(io::writer(&rt));
     let mut c = Ui::new(UiLimits { nodes: 1 });
-    let mut patches = Vec::new(alloc);
-    let mut label = Vec::new(alloc);
-    let mut line = Vec::new(alloc);
+    let mut patches = Patches::none();
+    let mut label = ArrayVec::new();
     let mut left = SCRIPT;
     for _ in 0..=SCRIPT {
-        let n = pipes::next_line(&mut input, &mut out, &mut line)?;
+        let line = pipes::next_line(&mut input, &mut out)?;
+        let n = line.len();
         if n == 0 {
             break;
         }
-        let text = line.strip_suffix(b"\n").unwrap_or(line.as_slice());
+        let text = match line {
+            [text @ .., b'\n'] => text,
+            text => text,
+        };
         if LINE < text.len() || left < n {
             writeln!(out, "?")?;
             break;
@@ -55,7 +63,8 @@ fn main(rt: HostRuntime) -> io::Result<()> {
         if matches!(text, [] | [b'#', ..]) {
             continue;
         }
-        match calls::read(alloc, text)? {
+        out.make_room(ANSWER)?;
+        match calls::read(text) {
             None => writeln!(out, "?")?,
             Some(Call::Reading(reading)) => turn::asked(&mut out, &c.tree, reading)?,
             Some(Call::Change(change)) => {
@@ -68,13 +77,13 @@ fn main(rt: HostRuntime) -> io::Result<()> {
                 turn::answer(&mut out, text::measure(bytes.as_slice()), "0")?;
             }
             Some(Call::Patch(patch)) => {
-                waiting::add(&mut out, &mut patches, waiting::PATCHES, &[patch])?;
+                patches.add(&mut out, patch)?;
             }
             Some(Call::Label(more)) => {
-                waiting::add(&mut out, &mut label, waiting::LABEL, more.as_slice())?;
+                waiting::add_bytes(&mut out, &mut label, more.as_slice())?;
             }
             Some(Call::Lines(asked)) => {
-                label::break_lines(alloc, &mut out, label.as_slice(), asked)?;
+                label::break_lines(&mut out, label.as_slice(), asked)?;
                 label.clear();
             }
         }

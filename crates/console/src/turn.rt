@@ -1,7 +1,8 @@
 // What a call of the tree or the desk does, and what it writes. A tree is 57 KB, so that few are held at once.
 use crate::calls::{Change, Reading};
+use crate::digest;
 use crate::shown::{Marked, Node, Place, Sum, Typed};
-use crate::{digest, waiting};
+use crate::waiting::Patches;
 use field::NodeId;
 use report::shown::YesNo;
 use std::fmt::Display;
@@ -10,7 +11,7 @@ use std::io::Write;
 use text::refusal;
 use text::refusal::Refusal;
 use tree::answers::Changed;
-use tree::{StatePatch, Ui, UiLimits};
+use tree::{Ui, UiLimits};
 
 // The line of a call that answers nothing but whether it was accepted.
 pub(crate) fn plain(out: &mut impl Write, verdict: Result<(), Refusal>) -> io::Result<()> {
@@ -76,7 +77,7 @@ pub(crate) fn taken(out: &mut impl Write, c: &mut Changed) -> io::Result<()> {
 }
 
 // The tree after a change, in the last one's place, and whether the change was accepted. After `pool` no patch waits.
-pub(crate) fn changed(c: &mut Changed, change: Change, patches: &mut Vec<StatePatch>) {
+pub(crate) fn changed(c: &mut Changed, change: Change, patches: &mut Patches) {
     match change {
         Change::New(nodes) => apart(c, |c| *c = Ui::new(UiLimits { nodes })),
         Change::Origin(nodes) => apart(c, |c| *c = Ui::at_origin(UiLimits { nodes })),
@@ -84,10 +85,9 @@ pub(crate) fn changed(c: &mut Changed, change: Change, patches: &mut Vec<StatePa
         Change::Style(d, style) => apart(c, |c| *c = c.tree.set_style(d, style)),
         Change::Table(d, table) => apart(c, |c| *c = c.tree.set_state_table(d, table)),
         Change::Pool => {
-            let pool = waiting::pool(patches.as_slice());
-            let count = u32::try_from(patches.len()).unwrap_or(u32::MAX);
-            apart(c, |c| *c = c.tree.set_patch_pool(pool, count));
-            patches.clear();
+            let pool = *patches;
+            apart(c, |c| *c = c.tree.set_patch_pool(pool.items, pool.count));
+            patches.count = 0;
         }
         Change::Field(d) => apart(c, |c| *c = c.tree.make_field(d)),
         Change::Confirm(d) => apart(c, |c| *c = desk::confirm(c.tree, d)),

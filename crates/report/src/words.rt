@@ -1,8 +1,9 @@
 // What the words of a line write. A word that is malformed or out of its range reads as none.
-ghost use Rattle.std.specs.Prelude.{◌≡◌, ◌≤◌, ◌*◌, IfOk, IfSome, Ok, length, vec_len};
+ghost use Rattle.std.specs.Prelude.{◌≡◌, ◌≤◌, ◌*◌, IfSome, Ok, length};
 ghost use Rattle.std.specs.Str.Parse.{digits_value, without_leading_plus};
+ghost use Rattle.arrayvec.specs.ArrayVec.{array_vec_len};
 
-use std::alloc::{AllocError, Global};
+use arrayvec::ArrayVec;
 use std::str;
 use std::str::FromStr;
 
@@ -49,23 +50,20 @@ fn byte(pair: &[u8]) -> Option<u8>
     }
 }
 
-// HEX: `-`, or pairs of digits, at least one.
-pub fn hex(alloc: Global, w: &[u8]) -> Result<Option<Vec<u8>>, AllocError>
-    ensures { IfOk result (λ read. IfSome read (λ bytes. vec_len bytes * 2 ≤ length w.now)) }
+// HEX: `-`, or pairs of digits, at least one and at most 512. The longest line holds 509.
+pub fn hex(w: &[u8]) -> Option<ArrayVec<u8, 512>>
+    ensures { IfSome result (λ bytes. array_vec_len bytes * 2 ≤ length w.now) }
 {
-    let mut bytes = Vec::new(alloc);
+    let mut bytes = ArrayVec::new();
     match w {
-        b"-" => return Ok(Some(bytes)),
-        [] => return Ok(None),
+        b"-" => return Some(bytes),
+        [] => return None,
         _ => {}
     }
     for pair in w.chunks(2) {
-        let Some(b) = byte(pair) else {
-            return Ok(None);
-        };
-        bytes.push(b)?;
+        bytes.try_push(byte(pair)?).ok()?;
     }
-    Ok(Some(bytes))
+    Some(bytes)
 }
 
 #[cfg(test)]
@@ -106,12 +104,12 @@ mod tests {
 
     #[test]
     fn bytes(rt: HostRuntime) -> Result<(), Fail> {
-        let read = hex(rt.alloc(), b"00ff4a")?.ok_or("malformed")?;
+        let read = hex(b"00ff4a").ok_or("malformed")?;
         assert_eq!(rt; read.as_slice(), [0x00, 0xff, 0x4a].as_slice());
-        let none = hex(rt.alloc(), b"-")?.ok_or("malformed")?;
+        let none = hex(b"-").ok_or("malformed")?;
         assert_eq!(rt; none.len(), 0);
         for w in ["", "0", "000", "0g", "FF", "+1", "-1"] {
-            assert_eq!(rt; hex(rt.alloc(), w.as_bytes())?.is_none(), true);
+            assert_eq!(rt; hex(w.as_bytes()).is_none(), true);
         }
         Ok(())
     }

@@ -1,37 +1,37 @@
 // UTF-8: the RFC's examples, the codes at the ends of its ranges, and strings of each ill-formed kind beside their good neighbours.
 use crate::lines::group;
 use crate::show::{Spaced, Width, heading};
+use arrayvec::ArrayVec;
 use report::shown::YesNo;
-use std::alloc::{AllocError, Global};
 use std::io;
 use text::utf8;
 
-// The bytes of the codes, one after the other.
-fn encoded(alloc: Global, codes: &[u32]) -> Result<Vec<u8>, AllocError> {
-    let mut all = Vec::new(alloc);
+// The bytes of the codes, one after the other; a character that passes 64 is left out.
+fn encoded(codes: &[u32]) -> ArrayVec<u8, 64> {
+    let mut all = ArrayVec::new();
     for code in codes {
         let e = utf8::encode(*code);
-        all.extend_from_slice(&e.bytes[..usize::from(e.len).min(4)])?;
+        let _fits = all.try_extend_from_slice(&e.bytes[..usize::from(e.len).min(4)]);
     }
-    Ok(all)
+    all
 }
 
 // Codes, their bytes, and whether those are UTF-8.
-fn example(rt: &impl Print, alloc: Global, codes: &[u32]) -> io::Result<()> {
+fn example(rt: &impl Print, codes: &[u32]) -> io::Result<()> {
     for code in codes {
         print!(rt; "{code:04x} ")?;
     }
-    let bytes = encoded(alloc, codes)?;
+    let bytes = encoded(codes);
     let s = bytes.as_slice();
     println!(rt; "->{}, utf-8 {}", Spaced(s), YesNo(utf8::is_utf8(s)))
 }
 
-fn examples(rt: &impl Print, alloc: Global) -> io::Result<()> {
+fn examples(rt: &impl Print) -> io::Result<()> {
     heading(rt, "RFC 3629, section 7: the examples")?;
-    example(rt, alloc, &[0x41, 0x2262, 0x391, 0x2e])?;
-    example(rt, alloc, &[0xd55c, 0xad6d, 0xc5b4])?;
-    example(rt, alloc, &[0x65e5, 0x672c, 0x8a9e])?;
-    example(rt, alloc, &[0xfeff, 0x233b4])
+    example(rt, &[0x41, 0x2262, 0x391, 0x2e])?;
+    example(rt, &[0xd55c, 0xad6d, 0xc5b4])?;
+    example(rt, &[0x65e5, 0x672c, 0x8a9e])?;
+    example(rt, &[0xfeff, 0x233b4])
 }
 
 // A code, how many bytes it has by its leading zeros, and how many and which are written: none of a code that is no character.
@@ -161,8 +161,8 @@ fn neighbours(rt: &impl Print) -> io::Result<()> {
     )
 }
 
-pub(crate) fn run(rt: &impl Print, alloc: Global) -> io::Result<()> {
-    examples(rt, alloc)?;
+pub(crate) fn run(rt: &impl Print) -> io::Result<()> {
+    examples(rt)?;
     boundaries(rt)?;
     torn(rt)?;
     foreign(rt)?;

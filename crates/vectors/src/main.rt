@@ -14,7 +14,7 @@ mod sums;
 use std::io;
 
 fn main(rt: HostRuntime) -> io::Result<()> {
-    characters::run(&rt, rt.alloc())?;
+    characters::run(&rt)?;
     sums::run(&rt)?;
     edits::run(&rt)?;
     readings::run(&rt)?;

@@ -1,13 +1,15 @@
 -- What the private steps of src/growth.rt ask of each other and promise. Document 01 says nothing of them, and no caller cites them.
-use Rattle.std.specs.Prelude.{ℕ, ◌+◌, ◌<◌, ◌≤◌, ◌≡◌, cond, List, ltb, ℤ, pos, ◌+ℤ◌, get_or}
+use Rattle.std.specs.Prelude.{ℕ, ◌+◌, ◌<◌, ◌≤◌, ◌^◌, ◌≡◌, cond, List, ltb, ℤ, pos, ◌+ℤ◌, get_or}
 use Rattle.std.specs.Int.{w64}
 use Rattle.std.proofs.Common.{SFits}
 use Rattle.arithmetic.specs.Growth.{sum_to, rank, whole_share, remainder}
 
--- Where the quotient of l * g by t is no more than l.
+-- Where the long division fits 64 bits.
 pub record Divisible (l g t : ℕ) : Type 0 where
+  pub l_fits : l < 2 ^ 63
   pub g_part : g ≤ t
   pub t_some : 0 < t
+  pub t_fits : t < 2 ^ 39
 
 -- The whole shares of the first n places, their keys, which are the remainders plus 1, and the sum of the shares.
 pub record PartsOf (l : ℕ) (grows : List ℕ) (n : ℕ) (shares : List ℤ) (keys : List ℕ) (given : ℕ) : Type 0 where

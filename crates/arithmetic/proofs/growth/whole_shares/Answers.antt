@@ -19,8 +19,10 @@ pub mul_div-s-requires : goal.mul_div-s-requires
 unfolding grow_sum
 mul_div-s-requires c =
     record {
+      l_fits = omega (arith, c.requires.0);
       g_part = subst (λ (x : ℕ). get_or c.args.grows.now c.loop-i.i 0 ≤ x) (sym c.requires.2) (summand_at_most_sum (λ (k : ℕ). get_or c.args.grows.now k 0) _ _ c.loop-i-test.true);
       t_some = c.requires.3;
+      t_fits = c.requires.4;
     }
 
 pub overflow_cast-shares : goal.overflow_cast-shares
