@@ -83,6 +83,8 @@ pub fn fresh_layouts() -> [LayoutSlot; 128]
     [fresh_layout(); 128]
 }
 
+// Not built into its caller (a hint, which changes no proof): around its 128 copies a tree would be put together from parts, each copied.
+#[inline(never)]
 pub fn fresh_states() -> [StateSlot; 128]
     ensures { result ≡ replicate 128 fresh_state }
 {

@@ -23,7 +23,7 @@ const SCRIPT: usize = 1048576;
 
 const LINE: usize = 1024;
 
-// No answer but that of `lines` has so many bytes.
+// No answer has so many bytes, but that of `lines`, whose places each have fewer.
 const ANSWER: usize = 196;
 
 // Tells a person at a terminal how to go on. Standard output carries the answers alone, so that this goes to standard error.
@@ -56,6 +56,7 @@ fn main(rt: HostRuntime) -> io::Result<()> {
             text => text,
         };
         if LINE < text.len() || left < n {
+            out.make_room(ANSWER)?;
             writeln!(out, "?")?;
             break;
         }

@@ -120,6 +120,15 @@ impl<W: Write, const N: usize> Write for Output<W, N> {
         self.held.write(buf)
     }
 
+    // All of `buf` at once, behind what waits or, where there is no room, after that is written. What no buffer holds is not put in one.
+    fn write_all(&mut self, buf: &[u8]) -> io::Result<()> {
+        self.make_room(buf.len())?;
+        match self.held.try_extend_from_slice(buf) {
+            Ok(()) => Ok(()),
+            Err(_) => self.to.write_all(buf),
+        }
+    }
+
     fn flush(&mut self) -> io::Result<()>
         ensures ok { OnOk result (self.new.held.items ≡ []) }
     {
@@ -178,6 +187,22 @@ mod tests {
         let mut out = Vec::new(rt.alloc());
         assert_eq!(rt; next_line(&mut input, &mut out)?.len(), 1025);
         assert_eq!(rt; next_line(&mut input, &mut out)?.len(), 1);
+        Ok(())
+    }
+
+    #[test]
+    fn a_piece_stays_whole(rt: HostRuntime) -> Result<(), Fail> {
+        let mut out = Output::<_, 4>::new(Vec::new(rt.alloc()));
+        out.write_all(b"abc")?;
+        out.write_all(b"de")?;
+        assert_eq!(rt; out.to.as_slice(), b"abc".as_slice());
+        out.write_all(b"longer")?;
+        assert_eq!(rt; out.to.as_slice(), b"abcdelonger".as_slice());
+        out.write_all(b"just")?;
+        assert_eq!(rt; out.to.as_slice(), b"abcdelonger".as_slice());
+        out.write_all(b"f")?;
+        out.flush()?;
+        assert_eq!(rt; out.to.as_slice(), b"abcdelongerjustf".as_slice());
         Ok(())
     }
 }

@@ -69,6 +69,8 @@ pub struct Ui {
 
 impl Ui {
     // A tree with its root alone, and the pointer nowhere. A limit of 0 means 1; above 128 it is refused, and the tree has the limit 1.
+    // A hint keeps both starts out of their callers, whose frames would have room for a tree's parts.
+    #[inline(never)]
     pub fn new(limits: UiLimits) -> Changed
         ensures { changed_of result ≡ new_tree New limits.nodes }
     {
@@ -77,6 +79,7 @@ impl Ui {
 
     // The same with the pointer at (0, 0).
     // Kept: document 02 asks for a start of this kind beside the other; each is one call.
+    #[inline(never)]
     pub fn at_origin(limits: UiLimits) -> Changed
         ensures { changed_of result ≡ new_tree AtOrigin limits.nodes }
     {

@@ -16,13 +16,13 @@ const NOBODY: NodeId = NodeId {
     generation: 0,
 };
 
-// The tree of `n` slots that has its root alone, with the pointer as given.
+// The smallest tree: its root alone in one slot, with the pointer as given.
 #[tactic(auto, unfolding(crate::specs::Calls::fresh))]
-fn fresh(pointer: Option<Pixel>, n: u32) -> Ui
-    ensures { result ≡ fresh pointer n }
+fn smallest(pointer: Option<Pixel>) -> Ui
+    ensures { result ≡ fresh pointer 1 }
 {
     Ui {
-        slots: start::new_slots(n),
+        slots: start::new_slots(1),
         layout: start::fresh_layouts(),
         dirty: true,
         solved_for: Viewport {
@@ -49,27 +49,29 @@ fn fresh(pointer: Option<Pixel>, n: u32) -> Ui
         stated: [0; 3],
         stated_count: 0,
         layout_passes: 0,
-        free: if 1 < n { 1 } else { NIL },
+        free: NIL,
         live: 1,
-        limits: UiLimits { nodes: n },
+        limits: UiLimits { nodes: 1 },
         fields: [Field::empty(); 8],
     }
 }
 
-// What a start gives. A limit of 0 means 1; above 128 it is refused, and the tree has the limit 1.
-#[tactic(auto, unfolding(crate::specs::Calls::new_tree, arithmetic::specs::Tests::same))]
+// What a start gives. A limit of 0 means 1; above 128 it is refused, and the tree has the limit 1. The tree gets its slots where the answer
+// has it: one built before would be copied into the answer.
+#[tactic(auto, unfolding(crate::specs::Calls::fresh, crate::specs::Calls::new_tree, arithmetic::specs::Tests::same))]
 pub fn new_tree(kind: StartKind, n: u32) -> Changed
     ensures { changed_of result ≡ new_tree kind n }
 {
-    let pointer = start::first_pointer(kind);
-    if 128 < n {
-        return Reply {
-            tree: fresh(pointer, 1),
-            answer: Err(Refusal::Large),
-        };
+    let mut c = Reply {
+        tree: smallest(start::first_pointer(kind)),
+        answer: Err(Refusal::Large),
+    };
+    if n <= 128 {
+        let nodes = n.max(1);
+        c.tree.slots = start::new_slots(nodes);
+        c.tree.free = if 1 < nodes { 1 } else { NIL };
+        c.tree.limits = UiLimits { nodes };
+        c.answer = Ok(());
     }
-    Reply {
-        tree: fresh(pointer, n.max(1)),
-        answer: Ok(()),
-    }
+    c
 }
