@@ -1,5 +1,5 @@
 // Standard input by lines, beside an output that is written through a buffer. Both buffers have a fixed size, so that no heap is asked for.
-ghost use Rattle.std.specs.Prelude.{◌≡◌, ◌≤◌, ◌+◌, [], IfOk, IfSome, OnOk, length};
+ghost use Rattle.std.specs.Prelude.{◌≡◌, ◌≤◌, ◌+◌, [], IfOk, IfSome, OnErr, OnOk, length};
 ghost use Rattle.arrayvec.specs.ArrayVec.{array_vec_len};
 
 use arrayvec::ArrayVec;
@@ -55,17 +55,24 @@ impl<R: Read> Input<R> {
         Ok(0 < n)
     }
 
-    // How long the line is that comes next: with its newline, where it is no longer than a line may be.
+    // How long the line is that comes next: with its newline, where it is no longer than a line may be. What was read ahead may have moved, so
+    // that at an error the line before ends where that begins: the next call passes over none of it.
     fn find(&mut self, out: &mut impl Write) -> io::Result<usize>
-        ensures { IfOk result (λ n. n ≤ 1025) }
+        ensures most { IfOk result (λ n. n ≤ 1025) }
+        ensures kept { OnErr result (self.new.end ≡ self.new.at) }
     {
         // A turn reads one byte or more.
         for _ in 0..LINE {
             if let Some(n) = whole(self.ahead()) {
                 return Ok(n);
             }
-            if !self.fill(out)? {
-                break;
+            match self.fill(out) {
+                Ok(true) => {}
+                Ok(false) => break,
+                Err(e) => {
+                    self.end = self.at;
+                    return Err(e);
+                }
             }
         }
         Ok(self.ahead().len().min(LINE))
@@ -151,7 +158,8 @@ fn whole(text: &[u8]) -> Option<usize>
 }
 
 // The next line, its newline included: nothing at the input's end, and at most 1,025 bytes, one more than a line may have without its newline.
-// What waits in the output is written before more is read, so that a person sees an answer before the next line.
+// What waits in the output is written before more is read, so that a person sees an answer before the next line. After an error the next call
+// gives the line whole, with what was read of it before.
 pub fn next_line<'a, R: Read>(input: &'a mut Input<R>, out: &mut impl Write) -> io::Result<&'a [u8]>
     ensures { IfOk result (λ line. length line.now ≤ 1025) }
 {
@@ -187,6 +195,43 @@ mod tests {
         let mut out = Vec::new(rt.alloc());
         assert_eq!(rt; next_line(&mut input, &mut out)?.len(), 1025);
         assert_eq!(rt; next_line(&mut input, &mut out)?.len(), 1);
+        Ok(())
+    }
+
+    // Two pieces, and a failure between them.
+    #[derive(Drop)]
+    struct Torn<'a> {
+        front: &'a [u8],
+        failed: bool,
+        back: &'a [u8],
+    }
+
+    impl Read for Torn<'_> {
+        fn read(&mut self, buf: &mut [u8]) -> io::Result<usize> {
+            if !self.front.is_empty() {
+                return self.front.read(buf);
+            }
+            if !self.failed {
+                self.failed = true;
+                return Err(io::Error::from(ErrorKind::WouldBlock));
+            }
+            self.back.read(buf)
+        }
+    }
+
+    #[test]
+    fn a_line_stays_whole_after_an_error(rt: HostRuntime) -> Result<(), Fail> {
+        let mut input = Input::new(Torn {
+            front: b"one\nthe fi",
+            failed: false,
+            back: b"rst\nlast",
+        });
+        let mut out = Vec::new(rt.alloc());
+        assert_eq!(rt; next_line(&mut input, &mut out)?, b"one\n".as_slice());
+        assert_eq!(rt; next_line(&mut input, &mut out).is_err(), true);
+        for wanted in ["the first\n", "last", ""] {
+            assert_eq!(rt; next_line(&mut input, &mut out)?, wanted.as_bytes());
+        }
         Ok(())
     }
 

@@ -1,5 +1,5 @@
 // What the words of a line write. A word that is malformed or out of its range reads as none.
-ghost use Rattle.std.specs.Prelude.{◌≡◌, ◌≤◌, ◌*◌, IfSome, Ok, length};
+ghost use Rattle.std.specs.Prelude.{◌≡◌, ◌≤◌, ◌*◌, IfNone, IfSome, Ok, drop, length};
 ghost use Rattle.std.specs.Str.Parse.{digits_value, without_leading_plus};
 ghost use Rattle.arrayvec.specs.ArrayVec.{array_vec_len};
 
@@ -66,6 +66,28 @@ pub fn hex(w: &[u8]) -> Option<ArrayVec<u8, 512>>
     Some(bytes)
 }
 
+// HEX of any length, written at the front of a buffer that is lent: how many bytes the word has. What stands behind them stays. A buffer of half
+// the word's length or more is enough. A word that is malformed, or that the buffer is too short for, reads as none, and nothing is written.
+pub fn hex_into(w: &[u8], bytes: &mut [u8]) -> Option<usize>
+    ensures some { IfSome result (λ n. (n * 2 ≤ length w.now) × (n ≤ length bytes.new)) }
+    ensures behind { IfSome result (λ n. drop n bytes.new ≡ drop n bytes.old) }
+    ensures none { IfNone result (bytes.new ≡ bytes.old) }
+{
+    match w {
+        b"-" => return Some(0),
+        [] => return None,
+        _ => {}
+    }
+    let n = w.len() / 2;
+    if bytes.len() < n || !w.chunks(2).all(|pair| byte(pair).is_some()) {
+        return None;
+    }
+    for (place, b) in bytes[..n].iter_mut().zip(w.chunks(2).filter_map(byte)) {
+        *place = b;
+    }
+    Some(n)
+}
+
 #[cfg(test)]
 mod tests {
     use super::*;
@@ -112,5 +134,30 @@ mod tests {
             assert_eq!(rt; hex(w.as_bytes()).is_none(), true);
         }
         Ok(())
+    }
+
+    #[test]
+    fn bytes_of_a_long_word(rt: HostRuntime) {
+        let mut word = [b'0'; 2050];
+        word[2047] = b'7';
+        word[2048] = b'f';
+        let mut bytes = [1; 1025];
+        assert_eq!(rt; hex(&word).is_none(), true);
+        assert_eq!(rt; hex_into(&word, &mut bytes[..1024]), None);
+        for w in ["", "0", "000", "000g", "FF", "+1", "-1"] {
+            assert_eq!(rt; hex_into(w.as_bytes(), &mut bytes), None);
+        }
+        assert_eq!(rt; hex_into(b"-", &mut []), Some(0));
+        assert_eq!(rt; hex_into(b"-", &mut bytes), Some(0));
+        assert_eq!(rt; bytes.as_slice(), [1; 1025].as_slice());
+        let mut wanted = [1; 1025];
+        wanted[0] = 0x4a;
+        assert_eq!(rt; hex_into(b"4a", &mut bytes), Some(1));
+        assert_eq!(rt; bytes.as_slice(), wanted.as_slice());
+        assert_eq!(rt; hex_into(&word, &mut bytes), Some(1025));
+        wanted = [0; 1025];
+        wanted[1023] = 0x07;
+        wanted[1024] = 0xf0;
+        assert_eq!(rt; bytes.as_slice(), wanted.as_slice());
     }
 }
